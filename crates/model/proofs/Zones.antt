@@ -1,0 +1,79 @@
+-- Matrices, or none, as sets of times: what a list of constraints leaves.
+use Prim.Native.Nat.{ℕ, _<_}
+use mathlib.Core.Logic.{_↔_}
+use mathlib.Core.List.{List, _∷_, foldl}
+use mathlib.Core.Option.{Option, none, some}
+use lib.IntN.{ℤ, _-ℤ_}
+use Rattle.model.specs.Bound.{Bound, Holds}
+use Rattle.model.specs.Matrix.{Matrix, Constraint, constrain, tighten}
+use Rattle.model.proofs.Listed.{Every, done, both}
+use Rattle.model.proofs.Closed.{Closed, Within, within-is, within-closed, everything-closed}
+use Rattle.model.proofs.Members.{Member, within-sound, within-complete, within-none, everything-member}
+
+pub data ClosedZone (m : ℕ) : Option Matrix → Type 0 where
+  empty : ClosedZone m none
+  closed : {d : Matrix} → Closed m d → ClosedZone m (some d)
+
+abbrev pub In : ℕ → Option Matrix → (ℕ → ℤ) → Type 0
+In m none x = ⊥
+In m (some d) x = Member m d x
+
+pub record Fits (m : ℕ) (k : Constraint) : Type 0 where
+  pub row-fits : k .row < m
+  pub col-fits : k .col < m
+
+abbrev pub Keeps : (ℕ → ℤ) → Constraint → Type 0
+Keeps x k = Holds (x (k .row) -ℤ x (k .col)) (k .limit)
+
+-- a first constraint, then the others
+step-in : {A Z M : Type 0} (x : ℕ → ℤ) {k : Constraint} {ks : List Constraint}
+    → A ↔ (Z × Every (Keeps x) ks) → Z ↔ (M × Keeps x k) → A ↔ (M × Every (Keeps x) (k ∷ ks))
+step-in {A} {M} x {k} {ks} rest here = (to, λ h. from (h .0) (h .1))
+  where
+    to : A → M × Every (Keeps x) (k ∷ ks)
+    to h = let (p, ps) = rest .0 h in let (q, r) = here .0 p in (q, both r ps)
+
+    from : M → Every (Keeps x) (k ∷ ks) → A
+    from h (both p ps) = rest .1 (here .1 (h, p), ps)
+
+module _ (m : ℕ) where
+  -- one constraint
+  within-zone : {d : Matrix} {a b : ℕ} {limit : Bound} {o : Option Matrix} → Closed m d → a < m → b < m → Within m d a b limit o → ClosedZone m o
+  within-zone {o = none} cl ha hb w = empty
+  within-zone {o = some d′} cl ha hb w = closed (within-closed cl ha hb w)
+
+  pub constrain-closed : {o : Option Matrix} {k : Constraint} → ClosedZone m o → Fits m k → ClosedZone m (constrain m o k)
+  unfolding constrain
+  constrain-closed empty f = empty
+  constrain-closed {k} (closed {d} cl) f = within-zone cl (f .row-fits) (f .col-fits) (within-is m d (k .row) (k .col) (k .limit))
+
+  within-in : {d : Matrix} {a b : ℕ} {limit : Bound} {o : Option Matrix} → Closed m d → a < m → b < m → Within m d a b limit o
+      → (x : ℕ → ℤ) → In m o x ↔ (Member m d x × Holds (x a -ℤ x b) limit)
+  within-in {o = none} cl ha hb w x = (λ h. absurd h, λ h. within-none ha hb x w (h .0) (h .1))
+  within-in {o = some d′} cl ha hb w x = (within-sound ha hb x cl w, λ h. within-complete ha hb x w (h .0) (h .1))
+
+  pub constrain-in : {o : Option Matrix} {k : Constraint} → ClosedZone m o → Fits m k → (x : ℕ → ℤ)
+      → In m (constrain m o k) x ↔ (In m o x × Keeps x k)
+  unfolding constrain
+  constrain-in empty f x = (λ h. absurd h, λ h. h .0)
+  constrain-in {k} (closed {d} cl) f x = within-in cl (f .row-fits) (f .col-fits) (within-is m d (k .row) (k .col) (k .limit)) x
+
+  -- a list of them
+  pub all-closed : {ks : List Constraint} {o : Option Matrix} → ClosedZone m o → Every (Fits m) ks → ClosedZone m (foldl (constrain m) o ks)
+  all-closed c done = c
+  all-closed c (both f fs) = all-closed (constrain-closed c f) fs
+
+  pub all-in : {ks : List Constraint} {o : Option Matrix} → ClosedZone m o → Every (Fits m) ks → (x : ℕ → ℤ)
+      → In m (foldl (constrain m) o ks) x ↔ (In m o x × Every (Keeps x) ks)
+  all-in c done x = (λ h. (h, done), λ h. h .0)
+  all-in c (both f fs) x = step-in x (all-in (constrain-closed c f) fs x) (constrain-in c f x)
+
+  pub tighten-closed : {ks : List Constraint} → Every (Fits m) ks → ClosedZone m (tighten m ks)
+  unfolding tighten
+  tighten-closed f = all-closed (closed (everything-closed m)) f
+
+  pub tighten-in : {ks : List Constraint} → Every (Fits m) ks → (x : ℕ → ℤ) → In m (tighten m ks) x ↔ Every (Keeps x) ks
+  unfolding tighten
+  tighten-in f x =
+      let all = all-in (closed (everything-closed m)) f x in
+      (λ h. all .0 h .1, λ h. all .1 (everything-member m x, h))

@@ -1,0 +1,12 @@
+-- The definitions, in document 01's order. Lists and options first; the marked examples last.
+pub mod Lists
+pub mod Bound
+pub mod Matrix
+pub mod Pattern
+pub mod Network
+pub mod Search
+pub mod Faults
+pub mod Packed
+pub mod Answers
+pub mod Demands
+pub mod Examples
