@@ -1,7 +1,9 @@
 -- A closed matrix has members, and each of its bounds is met: the departures get their times one by one.
-use Prim.Native.Nat.{ℕ, zero, suc, _≤_, _<_}
+use Prim.Native.Nat.{ℕ, zero, suc, _+_, _-_, _<_}
 use native.Mathlib.Omega.{arith}
-use mathlib.Core.Path.{_≡_, refl}
+use native.Mathlib.Nat.{zero-add}
+use mathlib.Core.Path.{_≡_, refl, _∙_}
+use mathlib.Core.List.{List, [], _∷_}
 use mathlib.Core.Bool.{Bool, true, false, cond}
 use mathlib.Core.Option.{none, some}
 use mathlib.Core.Logic.{_≢_}
@@ -11,33 +13,37 @@ use native.Mathlib.Decide.{ℕ-discrete}
 use lib.Dec.{eqb, eqb→eq, eqb-refl, T}
 use Rattle.ints.proofs.Integers.{up, dn, ints, add-ud, neg-ud, sub-ud}
 use Rattle.model.specs.Bound as B
-use Rattle.model.specs.Bound.{Bound, most, LeB, any, Holds, plus, tighter}
+use Rattle.model.specs.Bound.{Bound, most, LeB, any, Holds, plus}
 use Rattle.model.proofs.Bounds.{bounds, holds-none, holds-sum, under, over, between, leB-refl, leB-trans, plus-assoc, plus-left-comm, plus-comm, plus-none, tighter-either, tighter-left, tighter-right}
+use Rattle.model.specs.Lists.{tabulate}
 use Rattle.model.specs.Matrix.{Matrix, entry, relaxed}
+use Rattle.model.specs.Search.{tightest}
+use Rattle.model.proofs.Listed.{Every, done, both, at-tabulate, every-tabulate}
 use Rattle.model.proofs.Closed.{Closed, Within, kept, within-closed}
 use Rattle.model.proofs.Members.{Member, within-sound}
 
+-- what is at least as tight as the tightest of a list is so for each, and what holds of none and of each holds of the tightest
+tightest-each : {u : Bound} (bs : List Bound) → LeB u (tightest bs) → Every (LeB u) bs
+unfolding tightest
+tightest-each [] h = done
+tightest-each (b ∷ bs) h = both (leB-trans h (tighter-left b (tightest bs))) (tightest-each bs (leB-trans h (tighter-right b (tightest bs))))
+
+tightest-either : (P : Bound → Type 0) {bs : List Bound} → P B.Bound.none → Every P bs → P (tightest bs)
+unfolding tightest
+tightest-either P p done = p
+tightest-either P p (both {x = b} {xs = bs} h hs) = tighter-either P b (tightest bs) h (tightest-either P p hs)
+
 -- the tightest of f 0, .., f (t - 1)
-least : ℕ → (ℕ → Bound) → Bound
-least zero f = B.Bound.none
-least (suc t) f = tighter (f t) (least t f)
+abbrev tightestOf : ℕ → (ℕ → Bound) → Bound
+tightestOf t f = tightest (tabulate t 0 f)
 
-least-le : (t : ℕ) (f : ℕ → Bound) (s : ℕ) → s < t → LeB (least t f) (f s)
-unfolding least
-least-le zero f s h = absurd (omega arith)
-least-le (suc t) f s h = go (ℕ-discrete s t) (λ k. least-le t f s k)
-  where
-    go : Dec (s ≡ t) → (s < t → LeB (least t f) (f s)) → LeB (tighter (f t) (least t f)) (f s)
-    go (yes e) rec = rw e (tighter-left (f t) (least t f))
-    go (no n) rec = leB-trans (tighter-right (f t) (least t f)) (rec (omega arith))
+tightestOf-each : (t : ℕ) (f : ℕ → Bound) {u : Bound} → LeB u (tightestOf t f) → (s : ℕ) → s < t → LeB u (f s)
+tightestOf-each t f h s l = rw zero-add at (at-tabulate t 0 f (tightest-each (tabulate t 0 f) h) s l)
 
--- what holds of none and of each holds of the tightest
-least-either : (P : Bound → Type 0) (t : ℕ) (f : ℕ → Bound) → P B.Bound.none → ((s : ℕ) → s < t → P (f s)) → P (least t f)
-unfolding least
-least-either P zero f p h = p
-least-either P (suc t) f p h = tighter-either P (f t) (least t f) (h t (omega arith)) (least-either P t f p (λ s k. h s (omega arith)))
+pub tightestOf-either : (P : Bound → Type 0) (t : ℕ) (f : ℕ → Bound) → P B.Bound.none → ((s : ℕ) → s < t → P (f s)) → P (tightestOf t f)
+tightestOf-either P t f p h = tightest-either P p (every-tabulate t 0 f (λ s l. rw zero-add (h s l)))
 
-shuffle : (p q r s : Bound) → plus (plus p q) (plus r s) ≡ plus (plus r q) (plus p s)
+shuffle : (p q r s : Bound) → plus (plus p q) (plus r s) ≡ plus (plus r p) (plus q s)
 shuffle p q r s = simp (plus-assoc, plus-left-comm, plus-comm)
 
 -- x with v at t
@@ -60,69 +66,76 @@ update-other x t v s n = go (eqb s t) refl
     go true e = absurd (n (eqb→eq s t (rw e tt)))
     go false e = refl
 
--- the times below t are set, and keep to the bounds among them
-module _ (m : ℕ) (d : Matrix) (cl : Closed m d) where
+module _ (m : ℕ) (d : Matrix) where
   abbrev D : ℕ → ℕ → Bound
   D = entry m d
 
-  abbrev Upto : ℕ → (ℕ → ℤ) → Type 0
+  -- the times below t are set, and keep to the bounds among them
+  abbrev pub Upto : ℕ → (ℕ → ℤ) → Type 0
   Upto t x = (i j : ℕ) → i < t → j < t → Holds (x i -ℤ x j) (D i j)
 
-  -- there is a time for t
-  abbrev Fits : ℕ → (ℕ → ℤ) → ℤ → Type 0
-  Fits t x v = ((s : ℕ) → s < t → Holds (v -ℤ x s) (D t s)) × ((s : ℕ) → s < t → Holds (x s -ℤ v) (D s t))
+  -- how late the time of t may be, given those below t, and how early, negated
+  abbrev pub latest : ℕ → (ℕ → ℤ) → Bound
+  latest t x = tightestOf t (λ s. plus (D t s) (most (x s)))
 
-  module _ (t : ℕ) (x : ℕ → ℤ) (ht : t < m) (ok : Upto t x) where
-    abbrev above : ℕ → Bound
-    above s = plus (most (x s)) (D t s)
+  abbrev pub earliest : ℕ → (ℕ → ℤ) → Bound
+  earliest t x = tightestOf t (λ s. plus (D s t) (most (negℤ (x s))))
 
-    abbrev below : ℕ → Bound
-    below s = plus (D s t) (most (negℤ (x s)))
+  -- v is a time for t
+  abbrev pub Possible : ℕ → (ℕ → ℤ) → ℤ → Type 0
+  Possible t x v = Holds v (latest t x) × Holds (negℤ v) (earliest t x)
 
-    room-at : (s s′ : ℕ) → s < t → s′ < t → LeB (most (pos 0)) (plus (above s) (below s′))
-    unfolding plus up dn
-    room-at s s′ h h′ =
-        rw (shuffle (most (x s)) (D t s) (D s′ t) (most (negℤ (x s′))))
-        (holds-sum (x s′ -ℤ x s) (x s +ℤ negℤ (x s′)) (pos 0)
-        (leB-trans (ok s′ s h′ h) (cl .triangle s′ s t (omega arith) (omega arith) ht))
-        (leB-refl (most (x s +ℤ negℤ (x s′))))
-        (omega (ints, sub-ud (x s′) (x s), sub-ud (x s) (x s′), add-ud (x s′ -ℤ x s) (x s -ℤ x s′))))
+  module _ (cl : Closed m d) where
+    module _ (t : ℕ) (x : ℕ → ℤ) (ht : t < m) (ok : Upto t x) where
+      room-at : (s s′ : ℕ) → s < t → s′ < t → LeB (most (pos 0)) (plus (plus (D t s) (most (x s))) (plus (D s′ t) (most (negℤ (x s′)))))
+      unfolding plus up dn
+      room-at s s′ h h′ =
+          rw (shuffle (D t s) (most (x s)) (D s′ t) (most (negℤ (x s′))))
+          (holds-sum (x s′ -ℤ x s) (x s +ℤ negℤ (x s′)) (pos 0)
+          (leB-trans (ok s′ s h′ h) (cl .triangle s′ s t (omega arith) (omega arith) ht))
+          (leB-refl (most (x s +ℤ negℤ (x s′))))
+          (omega (ints, sub-ud (x s′) (x s), sub-ud (x s) (x s′), add-ud (x s′ -ℤ x s) (x s -ℤ x s′))))
 
-    room : LeB (most (pos 0)) (plus (least t above) (least t below))
-    unfolding plus
-    room =
-        least-either (λ u. LeB (most (pos 0)) (plus u (least t below))) t above any (λ s h.
-        least-either (λ w. LeB (most (pos 0)) (plus (above s) w)) t below (rw plus-none any) (λ s′ h′. room-at s s′ h h′))
+      -- there is a time for t
+      room : LeB (most (pos 0)) (plus (latest t x) (earliest t x))
+      unfolding plus
+      room =
+          tightestOf-either (λ u. LeB (most (pos 0)) (plus u (earliest t x))) t _ any (λ s h.
+          tightestOf-either (λ w. LeB (most (pos 0)) (plus (plus (D t s) (most (x s))) w)) t _ (rw plus-none any) (λ s′ h′. room-at s s′ h h′))
 
-    next-time : (v : ℤ) × Fits t x v
-    next-time =
-        let (v, hu, hw) = between (least t above) (least t below) room in (
-          v,
-          (
-            λ s h. under v (x s) (D t s) (leB-trans hu (least-le t above s h)),
-            λ s h. over v (x s) (D s t) (leB-trans hw (least-le t below s h)),
-          ),
-        )
+      pub next-time : (v : ℤ) × Possible t x v
+      next-time = let (v, hu, hw) = between (latest t x) (earliest t x) room in (v, (hu, hw))
 
-    set-next : (v : ℤ) → Fits t x v → Upto (suc t) (update x t v)
-    unfolding up dn
-    set-next v f i j hi hj = go (ℕ-discrete i t) (ℕ-discrete j t)
-      where
-        go : Dec (i ≡ t) → Dec (j ≡ t) → Holds (update x t v i -ℤ update x t v j) (D i j)
-        go (yes p) (yes q) = rw (p, q, cl .diag t ht) (holds-none (update x t v t))
-        go (yes p) (no q) = rw (p, update-same x t v, update-other x t v j q) (f .0 j (omega arith))
-        go (no p) (yes q) = rw (q, update-same x t v, update-other x t v i p) (f .1 i (omega arith))
-        go (no p) (no q) = rw (update-other x t v i p, update-other x t v j q) (ok i j (omega arith) (omega arith))
+      -- it is set: y is x below t, and has it at t
+      pub upto-next : (y : ℕ → ℤ) → ((s : ℕ) → s < t → y s ≡ x s) → Possible t x (y t) → Upto (suc t) y
+      upto-next y same f i j hi hj = go (ℕ-discrete i t) (ℕ-discrete j t)
+        where
+          go : Dec (i ≡ t) → Dec (j ≡ t) → Holds (y i -ℤ y j) (D i j)
+          go (yes p) (yes q) = rw (p, q, cl .diag t ht) (holds-none (y t))
+          go (yes p) (no q) = rw (p, same j (omega arith)) (under (y t) (x j) (D t j) (rw (plus-comm (D t j)) at (tightestOf-each t _ (f .0) j (omega arith))))
+          go (no p) (yes q) = rw (q, same i (omega arith)) (over (y t) (x i) (D i t) (tightestOf-each t _ (f .1) i (omega arith)))
+          go (no p) (no q) = rw (same i (omega arith), same j (omega arith)) (ok i j (omega arith) (omega arith))
 
-  set-all : (t : ℕ) → t ≤ m → (x : ℕ → ℤ) × Upto t x
-  set-all zero h = (λ s. pos 0, λ i j hi hj. absurd (omega arith))
-  set-all (suc t) h =
-      let (x, ok) = set-all t (omega arith) in
-      let (v, f) = next-time t x h ok in
-      (update x t v, set-next t x h ok v f)
+      set-next : (v : ℤ) → Possible t x v → Upto (suc t) (update x t v)
+      set-next v f = upto-next (update x t v) (λ s h. update-other x t v s (omega arith)) (rw update-same f)
 
-  pub has-member : (x : ℕ → ℤ) × Member m d x
-  has-member = set-all m (omega arith)
+    -- times below t that keep to the bounds among them are those of a member: r more are set
+    set-all : (r t : ℕ) (x : ℕ → ℤ) → r + t ≡ m → Upto t x → (y : ℕ → ℤ) × Member m d y × ((s : ℕ) → s < t → y s ≡ x s)
+    set-all zero t x e ok = let same : t ≡ m = omega arith in (x, rw same at ok, λ s h. refl)
+    set-all (suc r) t x e ok =
+        let (v, f) = next-time t x (omega arith) ok in
+        let (y, mem, same) = set-all r (suc t) (update x t v) (omega arith) (set-next t x (omega arith) ok v f) in
+        (y, mem, λ s h. same s (omega arith) ∙ update-other x t v s (omega arith))
+
+    -- and with them any time that is possible for t
+    pub takes-next : (t : ℕ) (x : ℕ → ℤ) → t < m → Upto t x → (v : ℤ) → Possible t x v
+        → (y : ℕ → ℤ) × Member m d y × ((s : ℕ) → s < t → y s ≡ x s) × y t ≡ v
+    takes-next t x ht ok v f =
+        let (y, mem, same) = set-all (m - suc t) (suc t) (update x t v) (omega arith) (set-next t x ht ok v f) in
+        (y, mem, λ s h. same s (omega arith) ∙ update-other x t v s (omega arith), same t (omega arith) ∙ update-same x t v)
+
+    pub has-member : (x : ℕ → ℤ) × Member m d x
+    has-member = let (x, mem, same) = set-all m 0 (λ s. pos 0) (omega arith) (λ i j hi hj. absurd (omega arith)) in (x, mem)
 
 -- a number that entry (i, j) allows, or any smaller, is reached by x(i) - x(j): constrain x(j) - x(i) by it
 module _ (m : ℕ) (d : Matrix) (cl : Closed m d) (i j : ℕ) (hi : i < m) (hj : j < m) where

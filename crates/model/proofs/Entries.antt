@@ -9,6 +9,7 @@ use lib.Seq.{ext-getD, getD-append-add}
 use Rattle.model.specs.Lists.{tabulate}
 use Rattle.model.specs.Bound as B
 use Rattle.model.specs.Bound.{Bound}
+use Rattle.model.proofs.Listed.{Every, every-getD}
 use Rattle.model.specs.Matrix.{Matrix, entry, matrix}
 
 module _ {ℓ} {X : Type ℓ} where
@@ -59,15 +60,25 @@ pub entry-matrix : (m i j : ℕ) (f : ℕ → ℕ → Bound) → i < m → j < m
 unfolding matrix entry
 entry-matrix m i j f h k = getD-rows m m 0 i j f B.Bound.none h k ∙ rw zero-add
 
+-- a place of a matrix is that of an entry
+module _ (m : ℕ) (P : ℕ → Type 0) where
+  pub each-place : ((i j : ℕ) → i < m → j < m → P (i * m + j)) → (p : ℕ) → p < m * m → P p
+  each-place h p l = go m refl
+    where
+      go : (k : ℕ) → m ≡ k → P p
+      go zero e = absurd (let z : m * m ≡ 0 = rw e in omega arith)
+      go (suc k) e =
+          let pos : 0 < m = omega arith in
+          rw (div-add-mod' p m) at (h (p / m) (p % m) (div-lt-iff-lt-mul {k = m} {x = p} {y = m} pos .1 l) (mod-lt p pos))
+
 -- equal entries, equal matrices
 pub ext-entry : (m : ℕ) (d e : Matrix) → length d ≡ m * m → length e ≡ m * m
     → ((i j : ℕ) → i < m → j < m → entry m d i j ≡ entry m e i j) → d ≡ e
 unfolding entry
-ext-entry zero d e ld le h = ext-getD B.Bound.none d e (ld ∙ sym le) (λ p k. absurd (omega arith))
-ext-entry (suc m) d e ld le h = ext-getD B.Bound.none d e (ld ∙ sym le) at-place
-  where
-    at-place : (p : ℕ) → p < length d → getD d p B.Bound.none ≡ getD e p B.Bound.none
-    at-place p k =
-        let pos : 0 < suc m = omega arith in
-        let row : p / suc m < suc m = div-lt-iff-lt-mul {k = suc m} {x = p} {y = suc m} pos .1 (omega arith) in
-        rw (div-add-mod' p (suc m)) at (h (p / suc m) (p % suc m) row (mod-lt p pos))
+ext-entry m d e ld le h =
+    ext-getD B.Bound.none d e (ld ∙ sym le) (λ p k. each-place m (λ p. getD d p B.Bound.none ≡ getD e p B.Bound.none) h p (omega arith))
+
+-- what holds of every entry holds of every element
+pub every-entry : (m : ℕ) (P : Bound → Type 0) (d : Matrix) → length d ≡ m * m → ((i j : ℕ) → i < m → j < m → P (entry m d i j)) → Every P d
+unfolding entry
+every-entry m P d e h = every-getD B.Bound.none d (λ p k. each-place m (λ p. P (getD d p B.Bound.none)) h p (omega arith))

@@ -1,5 +1,6 @@
 -- Matrices, or none, as sets of times: what a list of constraints leaves.
 use Prim.Native.Nat.{ℕ, _<_}
+use mathlib.Core.Path.{_≡_, refl, ap}
 use mathlib.Core.Logic.{_↔_}
 use mathlib.Core.List.{List, _∷_, foldl}
 use mathlib.Core.Option.{Option, none, some}
@@ -8,15 +9,21 @@ use Rattle.model.specs.Bound.{Bound, Holds}
 use Rattle.model.specs.Matrix.{Matrix, Constraint, constrain, tighten}
 use Rattle.model.proofs.Listed.{Every, done, both}
 use Rattle.model.proofs.Closed.{Closed, Within, within-is, within-closed, everything-closed}
+use Rattle.model.proofs.Attained.{has-member}
+use Rattle.model.proofs.Unique.{same-members}
 use Rattle.model.proofs.Members.{Member, within-sound, within-complete, within-none, everything-member}
 
 pub data ClosedZone (m : ℕ) : Option Matrix → Type 0 where
   empty : ClosedZone m none
   closed : {d : Matrix} → Closed m d → ClosedZone m (some d)
 
+-- there is a zone, and it has P
+abbrev pub Is : (Matrix → Type 0) → Option Matrix → Type 0
+Is P none = ⊥
+Is P (some d) = P d
+
 abbrev pub In : ℕ → Option Matrix → (ℕ → ℤ) → Type 0
-In m none x = ⊥
-In m (some d) x = Member m d x
+In m o x = Is (λ d. Member m d x) o
 
 pub record Fits (m : ℕ) (k : Constraint) : Type 0 where
   pub row-fits : k .row < m
@@ -37,6 +44,13 @@ step-in {A} {M} x {k} {ks} rest here = (to, λ h. from (h .0) (h .1))
     from h (both p ps) = rest .1 (here .1 (h, p), ps)
 
 module _ (m : ℕ) where
+  -- zones with the same times are equal
+  pub same-zones : {o p : Option Matrix} → ClosedZone m o → ClosedZone m p → ((x : ℕ → ℤ) → In m o x ↔ In m p x) → o ≡ p
+  same-zones empty empty same = refl
+  same-zones empty (closed {d} c) same = let (x, mem) = has-member m d c in absurd (same x .1 mem)
+  same-zones (closed {d} c) empty same = let (x, mem) = has-member m d c in absurd (same x .0 mem)
+  same-zones (closed {d} c) (closed {d = e} f) same = ap some (same-members m d e c f same)
+
   -- one constraint
   within-zone : {d : Matrix} {a b : ℕ} {limit : Bound} {o : Option Matrix} → Closed m d → a < m → b < m → Within m d a b limit o → ClosedZone m o
   within-zone {o = none} cl ha hb w = empty

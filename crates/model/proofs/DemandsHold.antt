@@ -1,0 +1,184 @@
+-- The three demands hold, of every call.
+use Prim.Native.Nat.{ℕ, zero, suc, _-_, _≤_, _<_}
+use native.Mathlib.Omega.{arith}
+use native.Mathlib.Decide.{decLt}
+use mathlib.Core.Path.{_≡_, refl, sym, ap, _∙_}
+use mathlib.Core.Logic.{_↔_, _⊎_, inl, inr, ⊎-elim}
+use mathlib.Core.List.{List, [], _∷_, map}
+use mathlib.Core.Option.{Option, none, some}
+use lib.IntN.{ℤ, pos}
+use lib.ListN.{length, take, replicate, length-map}
+use lib.Seq.{take-at}
+use Rattle.ints.specs.declared.Seconds.{Seconds}
+use Rattle.model.specs.declared.Case.{Case}
+use Rattle.model.specs.declared.Fault.{Fault}
+use Rattle.model.specs.declared.Fault.the-variants as fault
+use Rattle.model.specs.declared.Verdict.{Verdict}
+use Rattle.model.specs.declared.Verdict.the-variants as verdict
+use Rattle.model.specs.Network.{Network, Repeat, repeatOf}
+use Rattle.model.specs.Search.{Outcome, reached, clear, never, tableFull, boundTooLarge, outcome}
+use Rattle.model.specs.Faults.{network, callFault}
+use Rattle.model.specs.Answers.{seconds, sevenTimes, cycleNumber, value, refusal, answered, answer, workspaceAfter, answerPacked, workspaceAfterPacked}
+use Rattle.model.specs.Demands as D
+use Rattle.model.specs.Demands.{InLimits, Decided, Ended, decided, table-full, bound-too-large, Demand1, Witness, Met, NotBefore, First, Demand2, NeverHolds, Demand3, Demands, PackedDemands}
+use Rattle.model.proofs.Cycles.{Regular}
+use Rattle.model.proofs.Limits.{limits-of}
+use Rattle.model.proofs.Sizes.{none-large}
+use Rattle.model.proofs.Parsed.{parsed-call}
+use Rattle.model.proofs.Beyond.{beyond}
+use Rattle.model.proofs.Searched.{Short}
+use Rattle.model.proofs.Concluded as concluded
+use Rattle.model.proofs.Concluded.{Concluded, reached-at, clear-at, never-at, conclusion}
+
+not-decided : (f : Fault) → Decided (verdict.Refused f) → ⊥
+not-decided f d = elim d [ ]
+
+ended : (o : Outcome) → Ended (answered o .verdict)
+ended (reached k xs) = decided (D.Decided.reached (cycleNumber k))
+ended (clear k) = decided (D.Decided.clear (cycleNumber k))
+ended never = decided D.Decided.never
+ended (tableFull k) = table-full (cycleNumber k)
+ended (boundTooLarge k) = bound-too-large (cycleNumber k)
+
+-- ---- the answer of a call, by its first fault
+module _ (c : Case) (capacity size : ℕ) where
+  pub answer-in : InLimits c capacity size → answer c capacity size ≡ answered (outcome (network c) capacity)
+  unfolding answer
+  answer-in e = rw (e, answer)
+
+  pub answer-refused : (f : Fault) → callFault c capacity size ≡ some f → answer c capacity size ≡ refusal f
+  unfolding answer
+  answer-refused f e = rw (e, answer)
+
+pub demand1 : (c : Case) (capacity : ℕ) (work : List ℤ) → Demand1 c capacity work
+unfolding workspaceAfter
+demand1 c capacity work = record {
+  ends = λ e. (rw (answer-in c capacity (length work) e) (ended (outcome (network c) capacity)), rw e);
+  refuses = λ f e. (answer-refused c capacity (length work) f e, rw e);
+}
+
+-- the numbers of times handed back
+numbers : (xs : List ℤ) → map (λ x. x .0) (map seconds xs) ≡ xs
+numbers [] = refl
+numbers (x ∷ xs) = ap (_∷_ x) (numbers xs)
+
+-- ---- what a network's outcome says, as an answer
+module _ (w : Network) (capacity : ℕ) (reg : Regular (w .n) (w .times)) where
+  first-once : {j k : ℕ} → First w j → First w k → j ≡ k
+  first-once {j} {k} f g = go (decLt j k) (decLt k j)
+    where
+      go : Dec (j < k) → Dec (k < j) → j ≡ k
+      go (yes h) d = absurd (g .not-before j (f .from-one) h (f .met))
+      go (no h) (yes l) = absurd (f .not-before k (g .from-one) l (g .met))
+      go (no h) (no l) = omega arith
+
+  abbrev Verdict-of : Outcome → Verdict
+  Verdict-of o = answered o .verdict
+
+  exactly : {o : Outcome} → Concluded w capacity o → Decided (Verdict-of o) → (k : ℕ)
+      → (Verdict-of o ≡ verdict.Reached (cycleNumber k)) ↔ First w k
+  exactly (reached-at {k = j} f s) d k = (
+    λ e. let q : j ≡ k = ap value e in rw (← q) f,
+    λ g. ap (λ (i : ℕ). verdict.Reached (cycleNumber i)) (first-once f g),
+  )
+  exactly (concluded.table-full e) d k = absurd (not-decided _ d)
+  exactly (concluded.bound-too-large l s e) d k = absurd (not-decided _ d)
+  exactly (clear-at s unmet) d k = (
+    λ e. let z : _≡_ {A = ℕ} 0 1 = cc in absurd (omega arith),
+    λ g. absurd (unmet k (g .from-one) (let h = g .to-horizon in omega arith) (g .met)),
+  )
+  exactly (never-at h) d k = (
+    λ e. let z : _≡_ {A = ℕ} 0 1 = cc in absurd (omega arith),
+    λ g. absurd (beyond w reg (h .again) (h .first) (h .proviso) (h .unmet) k (g .from-one) (g .met)),
+  )
+
+  started : {o : Outcome} → Concluded w capacity o → (k : ℕ) → Verdict-of o ≡ verdict.Reached (cycleNumber k)
+      → Witness w k (map (λ x. x .0) (take (w .n) (answered o .start)))
+  started (reached-at {xs} {k = j} f s) k e =
+      let q : j ≡ k = ap value e in
+      rw (← q, take-at (map seconds xs) _ (w .n) (length-map xs seconds ∙ s .size), numbers xs) s
+  started (concluded.table-full e) k q = let z : _≡_ {A = ℕ} 0 1 = cc in absurd (omega arith)
+  started (concluded.bound-too-large l s e) k q = let z : _≡_ {A = ℕ} 0 1 = cc in absurd (omega arith)
+  started (clear-at s unmet) k q = let z : _≡_ {A = ℕ} 0 1 = cc in absurd (omega arith)
+  started (never-at h) k q = let z : _≡_ {A = ℕ} 0 1 = cc in absurd (omega arith)
+
+  otherwise : {o : Outcome} → Concluded w capacity o → Decided (Verdict-of o) → NotBefore w (suc (w .horizon))
+      → (Verdict-of o ≡ verdict.Clear (cycleNumber (w .horizon))) ⊎ (Verdict-of o ≡ verdict.Never)
+  otherwise (reached-at f s) d unmet = absurd (unmet _ (f .from-one) (let h = f .to-horizon in omega arith) (f .met))
+  otherwise (concluded.table-full e) d unmet = absurd (not-decided _ d)
+  otherwise (concluded.bound-too-large l s e) d unmet = absurd (not-decided _ d)
+  otherwise (clear-at s u) d unmet = inl refl
+  otherwise (never-at h) d unmet = inr refl
+
+  never-exactly : {o : Outcome} → Concluded w capacity o → (Verdict-of o ≡ verdict.Never) ↔ NeverHolds w capacity
+  never-exactly (reached-at f s) = (
+    λ e. let z : _≡_ {A = ℕ} 0 1 = cc in absurd (omega arith),
+    λ h. absurd (beyond w reg (h .again) (h .first) (h .proviso) (h .unmet) _ (f .from-one) (f .met)),
+  )
+  never-exactly (concluded.table-full early) = (
+    λ e. let z : _≡_ {A = ℕ} 0 1 = cc in absurd (omega arith),
+    λ h. absurd (h .not-early early),
+  )
+  never-exactly (concluded.bound-too-large l s early) = (
+    λ e. let z : _≡_ {A = ℕ} 0 1 = cc in absurd (omega arith),
+    λ h. absurd (h .not-early early),
+  )
+  never-exactly (clear-at no-short unmet) = (
+    λ e. let z : _≡_ {A = ℕ} 0 1 = cc in absurd (omega arith),
+    λ h. absurd (no-short (record { again = h .again; first = h .first; proviso = h .proviso; long-enough = h .long-enough })),
+  )
+  never-exactly (never-at h) = (λ e. h, λ g. refl)
+
+-- ---- for a case within the limits, whose table is regular
+module _ (c : Case) (capacity size : ℕ) (limits : InLimits c capacity size) where
+  regular-case : Regular (network c .n) (network c .times)
+  regular-case = limits-of c capacity size limits .table .regular
+
+  concludes : Concluded (network c) capacity (outcome (network c) capacity)
+  concludes = conclusion (network c) capacity regular-case
+
+  -- the outcome bound too large never arises
+  pub not-too-large : (k : ℕ) → outcome (network c) capacity ≡ boundTooLarge k → ⊥
+  not-too-large k e = go concludes e
+    where
+      go : {o : Outcome} → Concluded (network c) capacity o → o ≡ boundTooLarge k → ⊥
+      go (reached-at f s) e = let z : _≡_ {A = ℕ} 0 1 = cc in omega arith
+      go (concluded.table-full f) e = let z : _≡_ {A = ℕ} 0 1 = cc in omega arith
+      go (concluded.bound-too-large {k = j} l s f) e =
+          let limit = limits-of c capacity size limits in
+          let none = none-large (network c) (limit .table .times-small) (limit .target-small) (limit .table .few-departures) j (omega arith) in
+          let z : _≡_ {A = ℕ} 0 1 = cc in omega arith
+      go (clear-at s u) e = let z : _≡_ {A = ℕ} 0 1 = cc in omega arith
+      go (never-at h) e = let z : _≡_ {A = ℕ} 0 1 = cc in omega arith
+
+  pub demand2 : Demand2 c capacity size
+  unfolding network
+  demand2 = record {
+    exactly = rw (answer-in c capacity size limits) (exactly (network c) capacity regular-case concludes);
+    start = rw (answer-in c capacity size limits) (started (network c) capacity regular-case concludes);
+    otherwise = rw (answer-in c capacity size limits) (otherwise (network c) capacity regular-case concludes);
+  }
+
+  never-is : (answer c capacity size .verdict ≡ verdict.Never) ↔ NeverHolds (network c) capacity
+  never-is = rw (answer-in c capacity size limits) (never-exactly (network c) capacity regular-case concludes)
+
+  pub demand3 : Demand3 c capacity size
+  demand3 = record {
+    beyond = beyond (network c) regular-case;
+    exactly = never-is;
+    without-end = λ e. let h = never-is .0 e in beyond (network c) regular-case (h .again) (h .first) (h .proviso) (h .unmet);
+  }
+
+pub demands : (c : Case) (capacity : ℕ) (work : List ℤ) → Demands c capacity work
+demands c capacity work = record {
+  one = demand1 c capacity work;
+  two = demand2 c capacity (length work);
+  three = demand3 c capacity (length work);
+}
+
+pub packed-demands : (s : List ℕ) (capacity : ℕ) (work : List ℤ) → PackedDemands s capacity work
+unfolding answerPacked workspaceAfterPacked
+packed-demands s capacity work = record {
+  refuses = λ f e. (rw (e, answerPacked), rw (e, workspaceAfterPacked));
+  reads = λ c q e. (rw (e, answerPacked), rw (e, workspaceAfterPacked), parsed-call s c q e capacity (length work), demands c capacity work);
+}

@@ -1,0 +1,215 @@
+-- What a case without a fault keeps to. Each test of the definitions finds no fault exactly if all that it looks at is in its limits;
+-- the limits of a call's network and of a run follow.
+use Prim.Native.Nat.{ℕ, zero, suc, _+_, _*_, _-_, _≤_, _<_}
+use native.Mathlib.Omega.{arith}
+use native.Mathlib.Nat.{zero-mul}
+use mathlib.Core.Path.{_≡_, refl, sym, ap, _∙_}
+use mathlib.Core.Logic.{_↔_}
+use mathlib.Core.List.{List, [], _∷_, map}
+use mathlib.Core.Option.{Option, none, some}
+use mathlib.Core.Bool.{Bool, true, false, not, _&&_, _||_, cond}
+use lib.IntN.{ℤ, natAbs}
+use lib.Arith.{digits-lt}
+use lib.Dec.{ltb, eqb}
+use lib.ListN.{length, take, drop, getD, length-map, length-take, List·getD-map}
+use lib.Seq.{getD-take, getD-drop, drop-drop, take-add}
+use borrow.Author.Tests.{ltb-false, le-ltb, not-false}
+use Rattle.ints.specs.declared.Seconds.{Seconds}
+use Rattle.model.specs.declared.Slot.{Slot}
+use Rattle.model.specs.declared.Case.{Case}
+use Rattle.model.specs.declared.Fault.{Fault}
+use Rattle.model.specs.Lists.{anyOf, when, orElse}
+use Rattle.model.specs.Bound as B
+use Rattle.model.specs.Bound.{Bound, most}
+use Rattle.model.specs.Pattern.{pairPlace, pairBound}
+use Rattle.model.specs.Network.{Time, blank, secs, Network, time, isTime, regular}
+use Rattle.model.specs.Faults.{timeOf, boundOf, nothing, present, network, beyond, entryFault, rowsFault, outside, tableFault, patternsFault, roomFault, callFault, runFault}
+use Rattle.model.proofs.Listed.{Every, done, both, every-append, every-map, of-both, at-getD, map-every, of-map-every}
+use Rattle.model.proofs.Cycles.{Regular}
+
+-- ---- no fault. Each law holds both ways
+module _ {X : Type 0} where
+  -- neither of two has one
+  pub orElse-none : (o p : Option X) → (orElse o p ≡ none) ↔ ((o ≡ none) × (p ≡ none))
+  orElse-none none p = (λ e. (refl, e), λ h. h .1)
+  orElse-none (some x) p = (λ e. (e, cc), λ h. h .0)
+
+  -- the test fails
+  pub when-none : (t : Bool) (x : X) → (when t x ≡ none) ↔ (t ≡ false)
+  when-none false x = (λ e. refl, λ e. refl)
+  when-none true x = (λ e. cc, λ e. cc)
+
+-- neither test passes
+pub or-is-false : (s t : Bool) → ((s || t) ≡ false) ↔ ((s ≡ false) × (t ≡ false))
+or-is-false false t = (λ e. (refl, e), λ h. h .1)
+or-is-false true t = (λ e. (e, cc), λ h. h .0)
+
+-- the test passes
+pub not-is-false : (t : Bool) → (not t ≡ false) ↔ (t ≡ true)
+not-is-false t = (not-false t, ap not)
+
+-- no number is below one that is at most as large
+pub ltb-is-false : (a b : ℕ) → (ltb a b ≡ false) ↔ (b ≤ a)
+ltb-is-false a b = (ltb-false a b, le-ltb a b)
+
+-- it is absent, or at most limit in size
+abbrev pub InLimit : ℕ → Slot → Type 0
+InLimit limit e = beyond limit e ≡ false
+
+-- every entry is in the limit
+pub entryFault-none : (limit : ℕ) (f : ℕ → Fault) (p : ℕ) (es : List Slot) → (entryFault limit f p es ≡ none) ↔ Every (InLimit limit) es
+unfolding entryFault
+entryFault-none limit f p [] = (λ e. done, λ e. refl)
+entryFault-none limit f p (e ∷ es) = simp (orElse-none, when-none, entryFault-none limit f (suc p) es) (λ h. both (h .0) (h .1), of-both)
+
+-- r rows of n entries each: every time is in its limit, and each row holds a time
+pub data RowsInLimit (n : ℕ) : ℕ → List Slot → Type 0 where
+  no-row : {es : List Slot} → RowsInLimit n zero es
+  row : {r : ℕ} {es : List Slot} → Every (InLimit 86400) (take n es) → regular (map timeOf (take n es)) ≡ true → RowsInLimit n r (drop n es)
+      → RowsInLimit n (suc r) es
+
+module _ {n : ℕ} where
+  -- the first row, and the others
+  of-row : {r : ℕ} {es : List Slot} → RowsInLimit n (suc r) es
+      → Every (InLimit 86400) (take n es) × ((regular (map timeOf (take n es)) ≡ true) × RowsInLimit n r (drop n es))
+  of-row (row h t rest) = (h, (t, rest))
+
+  -- row k of them, counted from 0
+  pub row-at : {r : ℕ} {es : List Slot} → RowsInLimit n r es → (k : ℕ) → k < r
+      → Every (InLimit 86400) (take n (drop (k * n) es)) × (regular (map timeOf (take n (drop (k * n) es))) ≡ true)
+  row-at no-row k l = absurd (omega arith)
+  row-at (row h t rest) zero l = rw (zero-mul n) (h, t)
+  row-at (row {es} h t rest) (suc k) l =
+      let e : suc k * n ≡ n + k * n = omega arith in
+      rw (e, ← (drop-drop (k * n) n es)) (row-at rest k (omega arith))
+
+  -- all their entries
+  pub rows-in : {r : ℕ} {es : List Slot} → RowsInLimit n r es → Every (InLimit 86400) (take (r * n) es)
+  rows-in no-row = rw (zero-mul n) done
+  rows-in (row {r} {es} h t rest) =
+      let e : suc r * n ≡ n + r * n = omega arith in
+      rw (e, take-add n (r * n) es) (every-append h (rows-in rest))
+
+-- the rows are in their limit
+pub rowsFault-none : (n r p : ℕ) (es : List Slot) → (rowsFault n r p es ≡ none) ↔ RowsInLimit n r es
+unfolding rowsFault
+rowsFault-none n zero p es = (λ e. no-row, λ e. refl)
+rowsFault-none n (suc r) p es =
+    simp (orElse-none, when-none, not-is-false, entryFault-none, rowsFault-none n r (p + n) (drop n es))
+    (λ h. row (h .0) (h .1 .0) (h .1 .1), of-row)
+
+-- with these `simp` turns the absence of a fault into what it says, and back
+pub ruleset no-fault = (orElse-none, when-none, or-is-false, not-is-false, ltb-is-false, entryFault-none, rowsFault-none)
+
+-- ---- the numbers of entries in the limit
+-- entries that are read as `value` of their number, or as `no` where absent: what holds of `no` and of `value` at small numbers holds of them
+module _ {limit : ℕ} {Y : Type 0} (P : Y → Type 0) (value : ℤ → Y) (no : Y) (absent : P no) (small : (z : ℤ) → natAbs z ≤ limit → P (value z)) where
+  entry-in : (e : Slot) → InLimit limit e → P (cond (e .has) (value (e .value .0)) no)
+  unfolding beyond
+  entry-in e =
+      let z = e .value .0 in
+      elim (e .has) as (λ t. (t && ltb limit (natAbs z)) ≡ false → P (cond t (value z) no)) [ true ↦ λ h. small z (ltb-false _ _ h) | false ↦ λ h. absent ]
+
+  -- and so at every place
+  entry-at : {es : List Slot} → Every (InLimit limit) es → (p : ℕ) → P (getD (map (λ e. cond (e .has) (value (e .value .0)) no) es) p no)
+  entry-at h = at-getD {P = P} no absent (map-every _ (every-map entry-in h))
+
+module _ {limit : ℕ} {es : List Slot} (h : Every (InLimit limit) es) where
+  -- a time among them is at most limit in size
+  pub time-small : (p : ℕ) (v : ℤ) → getD (map timeOf es) p blank ≡ secs v → natAbs v ≤ limit
+  unfolding timeOf
+  time-small p v =
+      entry-at (λ t. t ≡ secs v → natAbs v ≤ limit) secs blank
+      (λ e. let z : _≡_ {A = ℕ} 0 1 = cc in omega arith) (λ z l e. let d : z ≡ v = cc in rw d at l) h p
+
+  -- so is a bound of the pattern that they state
+  pub bound-small : (n i j : ℕ) (b : ℤ) → pairBound n (map boundOf es) i j ≡ most b → natAbs b ≤ limit
+  unfolding boundOf pairBound
+  bound-small n i j b =
+      let P : Bound → Type 0 = λ t. t ≡ most b → natAbs b ≤ limit in
+      let absent : P B.Bound.none = λ e. let z : _≡_ {A = ℕ} 0 1 = cc in omega arith in
+      let at = entry-at P most B.Bound.none absent (λ z l e. let d : z ≡ b = cc in rw d at l) h (pairPlace n i j) in
+      elim (eqb i j) as (λ t. P (cond t B.Bound.none (getD (map boundOf es) (pairPlace n i j) B.Bound.none))) [ true ↦ absent | false ↦ at ]
+
+-- ---- rows that hold a time
+-- the place of a time
+time-at : (ts : List Time) → regular ts ≡ true → (j : ℕ) × (j < length ts) × (v : ℤ) × (getD ts j blank ≡ secs v)
+unfolding regular anyOf isTime
+time-at [] h = let z : _≡_ {A = ℕ} 0 1 = cc in absurd (omega arith)
+time-at (blank ∷ ts) h = let (j, l, v, e) = time-at ts h in (suc j, omega arith, v, e)
+time-at (secs v ∷ ts) h = (0, omega arith, v, refl)
+
+-- one of the first m entries, as a time
+getD-times : (m : ℕ) (es : List Slot) (p : ℕ) → p < m → getD (map timeOf (take m es)) p blank ≡ timeOf (getD es p nothing)
+unfolding timeOf
+getD-times m es p h = List·getD-map timeOf (take m es) p nothing ∙ ap timeOf (getD-take m es p nothing h)
+
+-- n such rows are a regular table
+pub rows-regular : {n : ℕ} {es : List Slot} → RowsInLimit n n es → Regular n (map timeOf (take (n * n) es))
+unfolding time
+rows-regular {n} {es} r i l u =
+    let k = i - 1 in
+    let at = drop (k * n) es in
+    let (j, h, v, e) = time-at (map timeOf (take n at)) (row-at r k (omega arith) .1) in
+    let in-row : j < n = omega (arith, length-map (take n at) timeOf, length-take n at) in
+    let in-rows : k < n = omega arith in
+    let same : suc j - 1 ≡ j = omega arith in
+    let is = getD-times (n * n) es (k * n + j) (digits-lt in-rows in-row) ∙ ap timeOf (sym (getD-drop (k * n) es j nothing)) ∙ sym (getD-times n at j in-row) ∙ e in
+    (suc j, record { from-one = omega arith; to-n = omega arith; value = v; is = rw same is })
+
+-- ---- the limits
+-- of a table
+pub record TableLimits (n : ℕ) (times : List Time) : Type 0 where
+  pub some-departures : 1 ≤ n
+  pub few-departures : n ≤ 7
+  pub regular : Regular n times
+  pub times-small : (i j : ℕ) (v : ℤ) → time n times i j ≡ secs v → natAbs v ≤ 86400
+
+-- of a call's network
+pub record Limits (w : Network) : Type 0 where
+  pub table : TableLimits (w .n) (w .times)
+  pub some-cycles : 1 ≤ w .horizon
+  pub few-cycles : w .horizon ≤ 64
+  pub start-small : (i j : ℕ) (b : ℤ) → pairBound (w .n) (w .start) i j ≡ most b → natAbs b ≤ 1000000
+  pub target-small : (i j : ℕ) (b : ℤ) → pairBound (w .n) (w .target) i j ≡ most b → natAbs b ≤ 1000000
+
+-- of a run to cycle k from the start times xs on
+pub record RunLimits (c : Case) (xs : List Seconds) (k : ℕ) : Type 0 where
+  pub table : TableLimits (c .n) (network c .times)
+  pub few-cycles : k ≤ 64
+  pub starts-small : Every (λ x. natAbs (x .0) ≤ 1000000000000) (take (c .n) xs)
+
+-- a table of rows in their limit is in the limits
+table-of : {n : ℕ} {es : List Slot} → 1 ≤ n → n ≤ 7 → RowsInLimit n n es → TableLimits n (map timeOf (take (n * n) es))
+unfolding time
+table-of a b r = record { some-departures = a; few-departures = b; regular = rows-regular r; times-small = λ i j. time-small (rows-in r) _ }
+
+module _ (c : Case) (capacity size : ℕ) (h : callFault c capacity size ≡ none) where
+  -- the network of a call without a fault is in the limits
+  pub limits-of : Limits (network c)
+  unfolding callFault tableFault patternsFault outside network
+  limits-of =
+      let facts = simp no-fault at h in
+      record {
+        table = table-of (omega arith) (omega arith) (facts .0 .1 .1);
+        some-cycles = omega arith;
+        few-cycles = omega arith;
+        start-small = bound-small (facts .1 .0 .0) (c .n);
+        target-small = bound-small (facts .1 .0 .1) (c .n);
+      }
+
+  -- Z is in its limits, and the workspace is long enough for it
+  pub room-of : (1 ≤ capacity) × (capacity ≤ 4096) × (2 * capacity * (c .n + 1) * (c .n + 1) ≤ size)
+  unfolding callFault roomFault outside
+  room-of = let facts = simp no-fault at h in omega arith
+
+-- a run without a fault is in the limits
+pub run-limits : (c : Case) (xs : List Seconds) (k : ℕ) → runFault c xs k ≡ none → RunLimits c xs k
+unfolding runFault tableFault outside beyond network
+run-limits c xs k h =
+    let facts = simp no-fault at h in
+    record {
+      table = table-of (omega arith) (omega arith) (facts .0 .1 .1);
+      few-cycles = omega arith;
+      starts-small = every-map (λ x. ltb-false _ _) (of-map-every (λ x. present (x .0)) (take (c .n) xs) (facts .1));
+    }

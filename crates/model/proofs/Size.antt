@@ -1,0 +1,140 @@
+-- How large a tightest bound can be: if no limit exceeds B in size, no finite bound of m + 1 rows exceeds m * B.
+-- If two times of a member are further apart, some of its times are more than B before all the others, and can be moved by 1 together.
+use Prim.Native.Nat.{ℕ, suc, _+_, _*_, _≤_, _<_}
+use native.Mathlib.Omega.{arith}
+use mathlib.Core.Path.{_≡_, refl}
+use mathlib.Core.Logic.{_↔_}
+use mathlib.Core.Bool.{Bool, true, false, cond}
+use mathlib.Core.List.{List}
+use mathlib.Core.Option.{some}
+use lib.IntN.{ℤ, pos, negℤ, natAbs, _+ℤ_, _-ℤ_}
+use lib.Signed.{_≤ℤ_, _<ℤ_}
+use lib.Dec.{leb}
+use borrow.Author.Tests.{leb-true, leb-false, le-leb, lt-leb}
+use Rattle.ints.proofs.Integers.{up, dn, ints, add-ud, sub-ud, neg-ud, pos-ud, abs-ud}
+use Rattle.model.specs.Bound.{Bound, none, most, any, Holds, plus}
+use Rattle.model.specs.Matrix.{Matrix, entry, Constraint, tighten}
+use Rattle.model.proofs.Bounds.{bounds}
+use Rattle.model.proofs.Listed.{Every, done, both}
+use Rattle.model.proofs.Closed.{Closed}
+use Rattle.model.proofs.Members.{Member}
+use Rattle.model.proofs.Attained.{meets}
+use Rattle.model.proofs.Zones.{ClosedZone, closed, Fits, Keeps, tighten-closed, tighten-in}
+use Rattle.model.proofs.Gap.{gap}
+
+-- no bound, or one of at most B in size
+pub data Small (B : ℕ) : Bound → Type 0 where
+  free : Small B none
+  sized : {z : ℤ} → natAbs z ≤ B → Small B (most z)
+
+-- the size of a finite bound, as a rule for omega
+pub small-size : {B : ℕ} {z : ℤ} → Small B (most z) → natAbs z ≤ B
+small-size (sized h) = h
+
+-- the same, for a bound that is equal to a finite one
+pub small-at : {B : ℕ} {b : Bound} {z : ℤ} → Small B b → b ≡ most z → natAbs z ≤ B
+small-at s e = small-size (rw e at s)
+
+-- what is small for B is small for any greater number
+pub small-mono : {B C : ℕ} {b : Bound} → B ≤ C → Small B b → Small C b
+small-mono l free = free
+small-mono l (sized {z} h) = sized {z = z} (omega arith)
+
+-- adding a number of at most C in size adds at most C
+pub small-plus : {B C : ℕ} {b : Bound} (c : ℤ) → Small B b → natAbs c ≤ C → Small (B + C) (plus b (most c))
+unfolding plus
+small-plus c free k = free
+small-plus c (sized {z} h) k = sized {z = z +ℤ c} (omega (ints, add-ud z c, abs-ud z, abs-ud c, abs-ud (z +ℤ c)))
+
+-- every time that is not early is more than B after every early time
+abbrev Separated : ℕ → ℕ → (ℕ → ℤ) → (ℕ → Bool) → Type 0
+Separated n B x early = (s t : ℕ) → s < n → t < n → early s ≡ true → early t ≡ false → (x s +ℤ pos B) <ℤ x t
+
+-- at most c after v, and more than c + B after v: more than B apart
+more-apart : (a b v : ℤ) (c B : ℕ) → up (a -ℤ v) ≤ c → c + B < up (b -ℤ v) → (a +ℤ pos B) <ℤ b
+more-apart a b v c B ha hb = omega (ints, sub-ud a v, sub-ud b v, abs-ud (b -ℤ v), add-ud a (pos B), pos-ud B)
+
+-- two times that are more than m * B apart can be separated
+separate : (m B : ℕ) (x : ℕ → ℤ) (p q : ℕ) → p < suc m → q < suc m → m * B < up (x q -ℤ x p)
+    → (early : ℕ → Bool) × Separated (suc m) B x early × early p ≡ true × early q ≡ false
+separate m B x p q hp hq far =
+    let after : ℕ → ℕ = λ t. up (x t -ℤ x p) in
+    let start : after p ≡ 0 = omega (ints, sub-ud (x p) (x p), abs-ud (x p -ℤ x p)) in
+    let (c, l, wide) = gap m B after p q hp hq start far in (
+      λ t. leb (after t) c,
+      λ s t hs ht es et. more-apart (x s) (x t) (x p) c B (leb-true _ _ es) (wide t ht (leb-false _ _ et)),
+      le-leb (after p) c (omega arith),
+      lt-leb (after q) c (omega arith),
+    )
+
+-- the early times moved by e
+moved : (ℕ → ℤ) → (ℕ → Bool) → ℤ → ℕ → ℤ
+moved x early e t = cond (early t) (x t +ℤ e) (x t)
+
+-- where e is at most 1, the times keep to each small constraint that they kept to before
+module _ {n B : ℕ} {x : ℕ → ℤ} {early : ℕ → Bool} {e : ℤ} (apart : Separated n B x early) (le : e ≤ℤ pos 1) where
+  -- one constraint
+  moved-holds : {s t : ℕ} {limit : Bound} → s < n → t < n → Small B limit → Holds (x s -ℤ x t) limit
+      → Holds (moved x early e s -ℤ moved x early e t) limit
+  unfolding moved
+  moved-holds hs ht free h = any
+  moved-holds {s} {t} hs ht (sized {z} small) h = go (early s) (early t) refl refl
+    where
+      go : (u v : Bool) → early s ≡ u → early t ≡ v → Holds (cond u (x s +ℤ e) (x s) -ℤ cond v (x t +ℤ e) (x t)) (most z)
+      go true true es et = omega (bounds, add-ud (x s) e, add-ud (x t) e, sub-ud (x s +ℤ e) (x t +ℤ e), sub-ud (x s) (x t))
+      go true false es et =
+          omega (bounds, apart s t hs ht es et, add-ud (x s) e, sub-ud (x s +ℤ e) (x t), add-ud (x s) (pos B), pos-ud B, pos-ud 1, abs-ud z)
+      go false true es et = absurd (omega (bounds, apart t s ht hs et es, sub-ud (x s) (x t), add-ud (x t) (pos B), pos-ud B, abs-ud z))
+      go false false es et = h
+
+  -- a list of them
+  moved-keeps : {ks : List Constraint} → Every (Fits n) ks → Every (λ k. Small B (k .limit)) ks → Every (Keeps x) ks
+      → Every (Keeps (moved x early e)) ks
+  moved-keeps done done done = done
+  moved-keeps (both f fs) (both s ss) (both h hs) = both (moved-holds (f .row-fits) (f .col-fits) s h) (moved-keeps fs ss hs)
+
+module _ {m B : ℕ} {ks : List Constraint} (fits : Every (Fits (suc m)) ks) (small : Every (λ k. Small B (k .limit)) ks)
+    (x : ℕ → ℤ) (keeps : Every (Keeps x) ks) where
+  -- of two times that are more than m * B apart, the earlier can be moved by e while the later stays
+  move : (p q : ℕ) → p < suc m → q < suc m → m * B < up (x q -ℤ x p) → (e : ℤ) → e ≤ℤ pos 1
+      → (y : ℕ → ℤ) × Every (Keeps y) ks × y p ≡ (x p +ℤ e) × y q ≡ x q
+  unfolding moved
+  move p q hp hq far e le =
+      let (early, apart, lp, lq) = separate m B x p q hp hq far in
+      (moved x early e, moved-keeps apart le fits small keeps, rw lp, rw lq)
+
+  -- the greatest difference of two times is at most m * B in size: a larger one still grows, as the earlier time moves by 1 or -1
+  greatest-small : (i j : ℕ) → i < suc m → j < suc m → ((y : ℕ → ℤ) → Every (Keeps y) ks → Holds (y i -ℤ y j) (most (x i -ℤ x j)))
+      → natAbs (x i -ℤ x j) ≤ m * B
+  greatest-small i j hi hj greatest = omega (arith, not-above, not-below, abs-ud (x i -ℤ x j))
+    where
+      not-above : ¬ (m * B < up (x i -ℤ x j))
+      not-above h =
+          let (y, k, ej, ei) = move j i hj hi h (negℤ (pos 1)) (omega (ints, neg-ud (pos 1), pos-ud 1)) in
+          omega (bounds, greatest y k, sub-ud (x i) (x j), sub-ud (y i) (y j), add-ud (x j) (negℤ (pos 1)), neg-ud (pos 1), pos-ud 1)
+
+      not-below : ¬ (m * B < dn (x i -ℤ x j))
+      not-below h =
+          let (y, k, ei, ej) = move i j hi hj (omega (ints, sub-ud (x i) (x j), sub-ud (x j) (x i), abs-ud (x i -ℤ x j))) (pos 1) (omega ints) in
+          omega (bounds, greatest y k, sub-ud (x i) (x j), sub-ud (y i) (y j), add-ud (x i) (pos 1), pos-ud 1)
+
+-- a closed zone that is a matrix is a closed matrix
+is-closed : {m : ℕ} {d : Matrix} → ClosedZone m (some d) → Closed m d
+is-closed (closed cl) = cl
+
+-- each finite bound of the tightest matrix is the greatest difference of its two times
+pub tightest-small : (m B : ℕ) (ks : List Constraint) (d : Matrix) → Every (Fits (suc m)) ks → Every (λ k. Small B (k .limit)) ks
+    → tighten (suc m) ks ≡ some d → (i j : ℕ) → i < suc m → j < suc m → Small (m * B) (entry (suc m) d i j)
+tightest-small m B ks d fits small tightest i j hi hj = go (entry (suc m) d i j) refl
+  where
+    cl : Closed (suc m) d
+    cl = is-closed (rw tightest at (tighten-closed (suc m) fits))
+
+    members : (x : ℕ → ℤ) → Member (suc m) d x ↔ Every (Keeps x) ks
+    members x = rw tightest at (tighten-in (suc m) fits x)
+
+    go : (b : Bound) → entry (suc m) d i j ≡ b → Small (m * B) b
+    go none e = free
+    go (most z) e =
+        let (x, mem, met) = meets (suc m) d cl i j hi hj z e in
+        sized (rw met at (greatest-small fits small x (members x .0 mem) i j hi hj (λ y k. rw (e, ← met) at (members y .1 k i j hi hj))))

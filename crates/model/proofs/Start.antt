@@ -1,0 +1,190 @@
+-- The start that is picked: it is a member of its zone, and each departure has the least time possible, given those before it;
+-- if there is no least, the greatest; if neither, 0.
+use Prim.Native.Nat.{ℕ, zero, suc, _+_, _≤_, _<_}
+use native.Mathlib.Omega.{arith}
+use native.Mathlib.Decide.{ℕ-discrete}
+use mathlib.Core.Path.{_≡_, refl, sym, ap, ap₂, _∙_, fun-ext}
+use mathlib.Core.List.{List, [], _∷_, _++_}
+use mathlib.Core.Option.{some}
+use lib.IntN.{ℤ, pos, negℤ, _-ℤ_}
+use lib.Signed.{_≤ℤ_}
+use lib.ListN.{length, getD, length-append, length-drop, List·getD-append}
+use lib.Seq.{getD-append-seam, getD-drop}
+use Rattle.ints.proofs.Integers.{ints, add-ud, sub-ud, neg-ud}
+use Rattle.model.specs.Lists.{tabulate}
+use Rattle.model.specs.Bound as B
+use Rattle.model.specs.Bound.{Bound, most, any, Holds, tighter}
+use Rattle.model.specs.Matrix.{Matrix}
+use Rattle.model.specs.Pattern.{InPattern}
+use Rattle.model.specs.Network.{clocked}
+use Rattle.model.specs.Search.{common, tightest, above, below, leastOr, choices, pick}
+use Rattle.model.proofs.Bounds.{bounds, leB-refl, leB-trans, holds-sum, between, plus-none, tighter-left, tighter-right}
+use Rattle.model.proofs.Closed.{Closed}
+use Rattle.model.proofs.Members.{Member}
+use Rattle.model.proofs.Attained.{tightestOf-either, Upto, latest, earliest, Possible, next-time, upto-next, takes-next}
+use Rattle.model.proofs.Patterns.{common-some}
+
+-- where any time is between two bounds, the one taken is
+taken-between : (w u : Bound) (v : ℤ) → Holds v u → Holds (negℤ v) w → Holds (leastOr w u) u × Holds (negℤ (leastOr w u)) w
+unfolding leastOr
+taken-between (most b) u v hu hw = (leB-trans (omega (bounds, neg-ud b, neg-ud v)) hu, omega (bounds, neg-ud b, neg-ud (negℤ b)))
+taken-between B.Bound.none (most c) v hu hw = (leB-refl (most c), any)
+taken-between B.Bound.none B.Bound.none v hu hw = (any, any)
+
+-- functions equal below k + n make equal lists
+tabulate-same : {X : Type 0} (n k : ℕ) (f g : ℕ → X) → ((i : ℕ) → i < k + n → f i ≡ g i) → tabulate n k f ≡ tabulate n k g
+unfolding tabulate
+tabulate-same zero k f g same = refl
+tabulate-same (suc n) k f g same = ap₂ _∷_ (same k (omega arith)) (tabulate-same n (suc k) f g (λ i h. same i (omega arith)))
+
+-- the times of a list
+abbrev at : List ℤ → ℕ → ℤ
+at xs s = getD xs s (pos 0)
+
+module _ (m : ℕ) (z : Matrix) where
+  -- the time that is taken for t, given x(0), .., x(t - 1)
+  abbrev taken : ℕ → (ℕ → ℤ) → ℤ
+  taken t x = leastOr (earliest m z t x) (latest m z t x)
+
+  -- it depends on these alone
+  taken-same : (t : ℕ) (x y : ℕ → ℤ) → ((s : ℕ) → s < t → x s ≡ y s) → taken t x ≡ taken t y
+  taken-same t x y same =
+      ap₂ (λ b c. leastOr (tightest b) (tightest c))
+      (tabulate-same t 0 _ _ (λ s h. rw (same s (omega arith)))) (tabulate-same t 0 _ _ (λ s h. rw (same s (omega arith))))
+
+  -- r times are chosen
+  length-choices : (r : ℕ) (xs : List ℤ) → length (choices m z r xs) ≡ r + length xs
+  unfolding choices
+  length-choices zero xs = omega arith
+  length-choices (suc r) xs = length-choices r _ ∙ simp length-append (omega arith)
+
+  -- those chosen before stay
+  choices-keep : (r : ℕ) (xs : List ℤ) (s : ℕ) → s < length xs → at (choices m z r xs) s ≡ at xs s
+  unfolding choices
+  choices-keep zero xs s h = refl
+  choices-keep (suc r) xs s h = choices-keep r _ s (simp length-append (omega arith)) ∙ List·getD-append xs _ (pos 0) s h
+
+  -- each time chosen is the one taken, given those before it
+  choices-taken : (r : ℕ) (xs : List ℤ) (t : ℕ) → length xs ≤ t → t < r + length xs
+      → at (choices m z r xs) t ≡ taken t (at (choices m z r xs))
+  unfolding choices above below
+  choices-taken zero xs t h l = absurd (omega arith)
+  choices-taken (suc r) xs t h l =
+      let v = leastOr (below m z xs) (above m z xs) in
+      let more : length (xs ++ (v ∷ [])) ≡ length xs + 1 = length-append xs (v ∷ []) in
+      elim (ℕ-discrete t (length xs)) [
+        | yes e ↦ rw e (choices-keep r (xs ++ (v ∷ [])) (length xs) (omega arith) ∙ getD-append-seam xs v [] (pos 0)
+            ∙ taken-same (length xs) (at xs) (at (choices m z (suc r) xs)) (λ s k. sym (choices-keep (suc r) xs s k)))
+        | no ne ↦ choices-taken r (xs ++ (v ∷ [])) t (omega arith) (omega arith)
+      ]
+
+  -- each time of a member is possible
+  member-possible : (t : ℕ) (x y : ℕ → ℤ) → t < m → Member m z y → ((s : ℕ) → s < t → y s ≡ x s) → Possible m z t x (y t)
+  member-possible t x y ht mem same = (
+    tightestOf-either (Holds (y t)) t _ any (λ s h. rw (← same s h) (holds-sum (y t -ℤ y s) (y s) (y t)
+        (mem t s ht (omega arith)) (leB-refl (most (y s))) (omega (ints, sub-ud (y t) (y s), add-ud (y t -ℤ y s) (y s))))),
+    tightestOf-either (Holds (negℤ (y t))) t _ any (λ s h. rw (← same s h) (holds-sum (y s -ℤ y t) (negℤ (y s)) (negℤ (y t))
+        (mem s t (omega arith) ht) (leB-refl (most (negℤ (y s))))
+        (omega (ints, neg-ud (y s), neg-ud (y t), sub-ud (y s) (y t), add-ud (y s -ℤ y t) (negℤ (y s)))))),
+  )
+
+module _ (n : ℕ) (z : Matrix) where
+  -- a time is picked for each departure
+  pub pick-length : length (pick n z) ≡ n
+  unfolding pick
+  pick-length = simp (length-drop, length-choices) (omega arith)
+
+  -- the times picked, the clock's zero first
+  abbrev picked : ℕ → ℤ
+  picked = clocked (pick n z)
+
+  -- they are the times chosen from none on: with none chosen, 0 is taken
+  picked-choices : picked ≡ at (choices (suc n) z (suc n) [])
+  unfolding clocked pick choices above below leastOr tightest tabulate
+  picked-choices = let first = pos 0 ∷ [] in fun-ext (elim [
+    | zero ↦ sym (choices-keep (suc n) z n first 0 (omega arith))
+    | suc i ↦ getD-drop 1 (choices (suc n) z n first) i (pos 0) ∙ ap (at (choices (suc n) z n first)) (omega arith)
+  ])
+
+  -- so each is the one taken, given those before it
+  picked-taken : (t : ℕ) → t < suc n → picked t ≡ taken (suc n) z t picked
+  picked-taken t h = rw picked-choices (choices-taken (suc n) z (suc n) [] t (omega arith) (omega arith))
+
+-- a member of the zone with the times picked for departures 1 to i, and for the clock, j = 0
+pub record Agrees (n : ℕ) (z : Matrix) (i : ℕ) (x : ℕ → ℤ) : Type 0 where
+  pub member : Member (suc n) z x
+  pub chosen : (j : ℕ) → j ≤ i → x j ≡ clocked (pick n z) j
+
+-- departure i + 1 has no least, and no greatest, time in the members that agree
+abbrev pub NoLeast : ℕ → Matrix → ℕ → Type 0
+NoLeast n z i = (u : ℤ) → (x : ℕ → ℤ) × Agrees n z i x × x (suc i) ≤ℤ u
+
+abbrev pub NoGreatest : ℕ → Matrix → ℕ → Type 0
+NoGreatest n z i = (u : ℤ) → (x : ℕ → ℤ) × Agrees n z i x × u ≤ℤ x (suc i)
+
+-- document 01's rule for the time v of departure i + 1, given those picked for departures 1 to i
+pub data Picked (n : ℕ) (z : Matrix) (i : ℕ) (v : ℤ) : Type 0 where
+  least : ((x : ℕ → ℤ) → Agrees n z i x → v ≤ℤ x (suc i)) → Picked n z i v
+  greatest : NoLeast n z i → ((x : ℕ → ℤ) → Agrees n z i x → x (suc i) ≤ℤ v) → Picked n z i v
+  neither : NoLeast n z i → NoGreatest n z i → v ≡ pos 0 → Picked n z i v
+
+module _ {n : ℕ} {z : Matrix} (cl : Closed (suc n) z) where
+  -- the times picked keep to the bounds among them, one by one
+  pick-upto : (t : ℕ) → t ≤ suc n → Upto (suc n) z t (picked n z)
+  pick-upto zero h = λ i j hi hj. absurd (omega arith)
+  pick-upto (suc t) h =
+      let ok = pick-upto t (omega arith) in
+      let (v, f) = next-time (suc n) z cl t (picked n z) h ok in
+      upto-next (suc n) z cl t (picked n z) h ok (picked n z) (λ s k. refl) (rw (picked-taken n z t h) (taken-between _ _ v (f .0) (f .1)))
+
+  -- the start picked is a member of the zone
+  pub pick-member : Member (suc n) z (clocked (pick n z))
+  pick-member = pick-upto (suc n) (omega arith)
+
+  -- so the time picked for a departure is one of those that its rule is about
+  pub pick-agrees : (i : ℕ) → Agrees n z i (clocked (pick n z))
+  pick-agrees i = record { member = pick-member; chosen = λ j l. refl }
+
+  module _ (i : ℕ) (h : i < n) where
+    -- how early departure i + 1 may be, negated, and how late
+    abbrev early : Bound
+    early = earliest (suc n) z (suc i) (picked n z)
+
+    abbrev late : Bound
+    late = latest (suc n) z (suc i) (picked n z)
+
+    -- a member that agrees has a possible time for departure i + 1, and each possible time is that of one
+    possible : (x : ℕ → ℤ) → Agrees n z i x → Possible (suc n) z (suc i) (picked n z) (x (suc i))
+    possible x a = member-possible (suc n) z (suc i) (picked n z) x (omega arith) (a .member) (λ s l. a .chosen s (omega arith))
+
+    agreeing : (v : ℤ) → Holds v late → Holds (negℤ v) early → (x : ℕ → ℤ) × Agrees n z i x × x (suc i) ≡ v
+    agreeing v hu hw =
+        let (x, mem, same, e) = takes-next (suc n) z cl (suc i) (picked n z) (omega arith) (pick-upto (suc i) (omega arith)) v (hu, hw) in
+        (x, record { member = mem; chosen = λ j l. same j (omega arith) }, e)
+
+    -- with no bound on how early there is no least time, and with none on either side no greatest
+    no-least : early ≡ B.Bound.none → NoLeast n z i
+    no-least e u =
+        let (v, hv, w) = between (tighter (most u) late) B.Bound.none (rw plus-none any) in
+        let (x, a, q) = agreeing v (leB-trans hv (tighter-right (most u) late)) (rw e any) in
+        let k = leB-trans hv (tighter-left (most u) late) in
+        (x, a, omega bounds)
+
+    no-greatest : early ≡ B.Bound.none → late ≡ B.Bound.none → NoGreatest n z i
+    no-greatest e f u = let (x, a, q) = agreeing u (rw f any) (rw e any) in (x, a, omega ints)
+
+    -- the rule, by these two bounds
+    rule : (w u : Bound) → early ≡ w → late ≡ u → Picked n z i (leastOr w u)
+    unfolding leastOr
+    rule (most b) u e f = least (λ x a. let k = rw e at (possible x a .1) in omega (bounds, neg-ud b, neg-ud (x (suc i))))
+    rule B.Bound.none (most c) e f = greatest (no-least e) (λ x a. let k = rw f at (possible x a .0) in omega bounds)
+    rule B.Bound.none B.Bound.none e f = neither (no-least e) (no-greatest e f) refl
+
+    -- each departure is picked by the rule
+    pub pick-rule : Picked n z i (clocked (pick n z) (suc i))
+    pick-rule = rw (picked-taken n z (suc i) (omega arith)) (rule early late refl refl)
+
+-- the start picked in what a zone has in common with a pattern is in both
+pub pick-common : {n : ℕ} {z c : Matrix} {b : List Bound} → Closed (suc n) z → common n z b ≡ some c
+    → Member (suc n) z (clocked (pick n c)) × InPattern n b (clocked (pick n c))
+pick-common {b} cl e = let (cl′, same) = common-some cl b e in same _ .0 (pick-member cl′)
