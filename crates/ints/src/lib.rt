@@ -56,7 +56,8 @@ impl Seconds {
     }
 
     // More than limit in size.
-    pub fn beyond(self, limit: u32) -> bool
+    pub fn beyond(self, limit: u64) -> bool
+        requires { ⌜ limit < 2 ^ 63 ⌝ }
         ensures { λ r. ⌜ r ≡ ltb limit (natAbs (self .0)) ⌝ }
     {
         if self.0 < 0 {

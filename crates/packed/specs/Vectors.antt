@@ -1,0 +1,64 @@
+-- Packed cases and what reading them gives, by computation: one list, one claim. The bytes come from an encoder written from document 01.
+use Prim.Native.Nat.{ℕ, _-_}
+use lib.IntN.{ℤ, pos, negsuc}
+use mathlib.Core.Path.{_≡_, refl}
+use mathlib.Core.List.{List, [], _∷_, _++_}
+use lib.ListN.{replicate}
+use Rattle.model.specs.declared.Slot.{Slot}
+use Rattle.model.specs.declared.Case.{Case}
+use Rattle.model.specs.declared.Fault.the-variants as fault
+use Rattle.model.specs.Lists.{anyOf}
+use Rattle.model.specs.Network.{isTime, regular}
+use Rattle.model.specs.Faults.{timeOf, nothing, present, beyond}
+use Rattle.model.specs.Packed.{Reading, got, refused, bitAt, numAt, bits, signed, entry, entries, rows, bounds, zeros, fill, caseOf, body, parse}
+
+pub data Vector : Type 0 where
+  reads : List ℕ → Reading Case → Vector
+
+abbrev pub AllRight : List Vector → Type 0
+AllRight [] = Unit {0}
+AllRight (reads s x ∷ vs) = (parse s ≡ x) × AllRight vs
+
+-- document 01's four bytes: n = 1, N = 1, time 60, no bounds
+abbrev pub one : Case
+one = caseOf 1 1 (present (pos 60) ∷ []) (nothing ∷ nothing ∷ []) (nothing ∷ nothing ∷ [])
+
+-- n = 7, N = 64: a time in each row, the ends of the ranges among the values
+abbrev pub rowWith : ℕ → ℤ → List Slot
+rowWith k z = replicate k nothing ++ present z ∷ replicate (6 - k) nothing
+
+abbrev pub seven : Case
+seven =
+    caseOf 7 64
+    (rowWith 6 (pos 86400)
+    ++ rowWith 0 (negsuc 86399)
+    ++ rowWith 1 (pos 1)
+    ++ rowWith 2 (negsuc 0)
+    ++ rowWith 3 (pos 0)
+    ++ rowWith 4 (pos 3600)
+    ++ rowWith 5 (pos 86399))
+    (present (pos 1000000) ∷ replicate 55 nothing)
+    (replicate 55 nothing ++ present (negsuc 999999) ∷ [])
+
+abbrev pub vectors : List Vector
+vectors =
+    reads [] (refused (fault.CaseEnds 0))
+    ∷ reads (0x20 ∷ []) (refused (fault.CaseEnds 3))
+    ∷ reads (0x20 ∷ 0x40 ∷ 0x03 ∷ []) (refused (fault.CaseEnds 9))
+    ∷ reads (0x00 ∷ []) (refused fault.Departures)
+    ∷ reads (0x20 ∷ 0x55 ∷ 0x18 ∷ 0x10 ∷ []) (refused (fault.Time 9))
+    ∷ reads (0x20 ∷ 0x6A ∷ 0xE7 ∷ 0xF0 ∷ []) (refused (fault.Time 9))
+    ∷ reads (0x40 ∷ 0x40 ∷ 0x03 ∷ 0xC0 ∷ 0x00 ∷ 0x00 ∷ []) (refused (fault.EmptyRow 29))
+    ∷ reads (0x20 ∷ 0x40 ∷ 0x03 ∷ 0xCB ∷ 0xD0 ∷ 0x90 ∷ 0x40 ∷ []) (refused (fault.Bound 28))
+    ∷ reads (0x20 ∷ 0x40 ∷ 0x03 ∷ 0xC3 ∷ 0x0B ∷ 0xDB ∷ 0xF0 ∷ []) (refused (fault.Bound 30))
+    ∷ reads (0x20 ∷ 0x40 ∷ 0x03 ∷ 0xC4 ∷ 0x00 ∷ 0x00 ∷ 0xA1 ∷ []) (refused (fault.FillBit 55))
+    ∷ reads (0x20 ∷ 0x40 ∷ 0x03 ∷ 0xC0 ∷ 0x00 ∷ []) (refused (fault.ExtraByte 32))
+    ∷ reads (0x20 ∷ 0x40 ∷ 0x03 ∷ 0xC0 ∷ []) (got one 32)
+    ∷ reads (0xFF ∷ 0x81 ∷ 0x54 ∷ 0x60 ∷ 0x35 ∷ 0x74 ∷ 0x00 ∷ 0x08 ∷ 0x00 ∷ 0x02 ∷ 0x03 ∷ 0xFF ∷ 0xFF
+    ∷ 0x80 ∷ 0x80 ∷ 0x00 ∷ 0x00 ∷ 0x20 ∷ 0x70 ∷ 0x80 ∷ 0x0A ∷ 0xA2 ∷ 0xFE ∷ 0xBD ∷ 0x09
+    ∷ (replicate 14 0x00 ++ 0x0C ∷ 0x2F ∷ 0x70 ∷ 0x00 ∷ [])) (got seven 344)
+    ∷ []
+
+pub all-right : AllRight vectors
+unfolding anyOf isTime regular timeOf beyond bitAt numAt bits signed entry entries rows bounds zeros fill body parse
+all-right = (refl, (refl, (refl, (refl, (refl, (refl, (refl, (refl, (refl, (refl, (refl, (refl, (refl, tt)))))))))))))
