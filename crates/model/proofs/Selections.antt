@@ -25,6 +25,10 @@ pub data Chosen (n : ℕ) (a : List Time) : ℕ → ℕ → Type 0 where
 pub chosen-column : {n : ℕ} {a : List Time} {r s : ℕ} → Chosen n a (suc r) s → Column n a (suc r) s
 chosen-column (column c) = c
 
+pub chosen-at : {n : ℕ} {a : List Time} {i s : ℕ} → 1 ≤ i → Column n a i s → Chosen n a i s
+chosen-at {i = zero} h c = absurd (omega arith)
+chosen-at {i = suc r} h c = column c
+
 pub chosen-fits : {n : ℕ} {a : List Time} {i s : ℕ} → Chosen n a i s → s < suc n
 chosen-fits clock = omega arith
 chosen-fits (column c) = let h = c .to-n in omega arith

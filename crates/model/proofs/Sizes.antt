@@ -73,12 +73,12 @@ module _ (n : ℕ) (a : List Time) (ts : TimesSmall n a) where
 
   -- the constraints of a row, where the zone's entries are at most S in size
   pub row-small : (d : Matrix) (S : ℕ) → ((i j : ℕ) → i < suc n → j < suc n → Small S (entry (suc n) d i j))
-      → {cols : List ℕ} {r s : ℕ} → r < n → Cols n a cols (suc r) → Chosen n a (suc r) s → Row (λ k. Small (S + 172800) (k .limit)) n a d cols (suc r) s
+      → {cols : List ℕ} {i s : ℕ} → i ≤ n → Cols n a cols i → Chosen n a i s → Row (λ k. Small (S + 172800) (k .limit)) n a d cols i s
   unfolding keeps
-  row-small d S ds {r} h before c = record {
-    attained = λ j k. small-mono (omega arith) (slack-small (suc r) (1 + j) _ (added-small c));
-    ahead = λ l k. small-plus _ (ds (suc r) l (omega arith) (omega arith)) (between-small (before l k) c);
-    back = λ l k. small-plus _ (ds l (suc r) (omega arith) (omega arith)) (between-small c (before l k));
+  row-small d S ds {i} h before c = record {
+    attained = λ j k. small-mono (omega arith) (slack-small i (1 + j) _ (added-small c));
+    ahead = λ l k. small-plus _ (ds i l (omega arith) (omega arith)) (between-small (before l k) c);
+    back = λ l k. small-plus _ (ds l i (omega arith) (omega arith)) (between-small c (before l k));
   }
 
   module _ (d : Matrix) (sel : List ℕ) (q : Selection n a n 1 sel) where
