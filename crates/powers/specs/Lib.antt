@@ -1,0 +1,2 @@
+-- How the arrays and the answer are read.
+pub mod Readings
