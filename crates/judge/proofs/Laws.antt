@@ -1,0 +1,132 @@
+-- Laws of the judged faults: one turn and the end of each walk over entries and rows, and what a judgement says of the fault that it stands for.
+use mathlib.Core.Path.{_≡_, refl, sym, ap, _∙_}
+use Prim.Native.Nat.{ℕ, suc, _+_, _-_, _*_, _≤_, _<_}
+use native.Mathlib.Nat.{add-zero, suc-mul, add-mul, mul-le-mul}
+use native.Mathlib.Numerals.{add-one}
+use native.Mathlib.Omega.{arith}
+use mathlib.Core.List.{List, [], _∷_, map}
+use mathlib.Core.Option.{Option, none, some}
+use mathlib.Core.Bool.{Bool, true, false, not, _||_, or-false, or-assoc, cond}
+use lib.ListN.{length, take, drop, getD, length-take, length-drop, drop-of-length-le}
+use lib.Seq.{drop-cons, drop-drop, getD-take, getD-drop}
+use Rattle.model.specs.declared.Slot.{Slot}
+use Rattle.model.specs.declared.Case.{Case}
+use Rattle.model.specs.declared.Fault.{Fault}
+use Rattle.model.specs.declared.Fault.the-variants as fault
+use Rattle.model.specs.declared.Judged.{Judged}
+use Rattle.model.specs.declared.Judged.the-variants as judged
+use Rattle.model.specs.Lists.{anyOf, when, orElse}
+use Rattle.model.specs.Network.{blank, secs, isTime, regular}
+use Rattle.model.specs.Faults.{timeOf, beyond, entryFault, rowsFault, outside, tableFault}
+use Rattle.model.proofs.Limits.{no-fault}
+use Rattle.judge.specs.Judgement.{judgedBy}
+
+-- ---- a walk over n entries: i were passed, and the first fault is that of the others
+pub record Passed (limit : ℕ) (f : ℕ → Fault) (p : ℕ) (es : List Slot) (n i : ℕ) : Type 0 where
+  pub long : length es ≡ n
+  pub within : i ≤ n
+  pub rest : entryFault limit f p es ≡ entryFault limit f (p + i) (drop i es)
+
+pub passed-none : {limit : ℕ} {f : ℕ → Fault} {p : ℕ} {es : List Slot} {n : ℕ} → length es ≡ n → Passed limit f p es n 0
+passed-none l = record { long = l; within = omega arith; rest = rw add-zero refl }
+
+-- the entries hold a time exactly if t, which says it of those passed, or the others do
+abbrev pub SomeTime : List Slot → ℕ → Bool → Type 0
+SomeTime es i t = regular (map timeOf es) ≡ (t || regular (map timeOf (drop i es)))
+
+has-time : (e : Slot) → isTime (timeOf e) ≡ e .has
+unfolding isTime timeOf
+has-time e = elim (e .has) as (λ b. isTime (cond b (secs (e .value .0)) blank) ≡ b) [ true ↦ refl | false ↦ refl ]
+
+module _ {limit : ℕ} {f : ℕ → Fault} {p : ℕ} {es : List Slot} {n i : ℕ} (r : Passed limit f p es n i) where
+  -- a turn: e is the next entry
+  module _ (h : i < n) (z e : Slot) (d : getD es i z ≡ e) where
+    next : drop i es ≡ e ∷ drop (i + 1) es
+    next = let l : i < length es = omega (arith, r .long) in rw (add-one, drop-cons es i z) (ap (λ (x : Slot). x ∷ drop (suc i) es) d)
+
+    pub passed-more : beyond limit e ≡ false → Passed limit f p es n (i + 1)
+    unfolding entryFault
+    passed-more b =
+        let m : suc (p + i) ≡ p + (i + 1) = omega arith in
+        record { long = r .long; within = omega arith; rest = r .rest ∙ ap (entryFault limit f (p + i)) next ∙ simp (b, m) }
+
+    pub passed-fault : beyond limit e ≡ true → entryFault limit f p es ≡ some (f (p + i))
+    unfolding entryFault
+    passed-fault b = r .rest ∙ ap (entryFault limit f (p + i)) next ∙ simp b
+
+    pub times-more : (t : Bool) → SomeTime es i t → SomeTime es (i + 1) (t || e .has)
+    unfolding regular anyOf
+    times-more t s = s ∙ rw (next, or-assoc) (ap (λ (b : Bool). t || (b || regular (map timeOf (drop (i + 1) es)))) (has-time e))
+
+  -- the end
+  module _ (h : n ≤ i) where
+    all : drop i es ≡ []
+    all = let l : length es ≤ i = omega (arith, r .long) in drop-of-length-le es l
+
+    pub passed-all : entryFault limit f p es ≡ none
+    unfolding entryFault
+    passed-all = r .rest ∙ ap (entryFault limit f (p + i)) all
+
+    pub times-all : (t : Bool) → SomeTime es i t → regular (map timeOf es) ≡ t
+    unfolding regular anyOf
+    times-all t s = s ∙ rw all (or-false t)
+
+-- ---- a part of an array: n entries from place b on
+module _ {X : Type 0} (xs : List X) (b n : ℕ) where
+  pub length-part : b + n ≤ length xs → length (take n (drop b xs)) ≡ n
+  length-part h = simp (length-take, length-drop) (omega arith)
+
+  pub getD-part : (i : ℕ) (z : X) → i < n → getD (take n (drop b xs)) i z ≡ getD xs (b + i) z
+  getD-part i z h = rw (getD-take, getD-drop)
+
+-- ---- row r of n, and those after it
+-- the row stands within the table's array
+pub row-fits : {n r : ℕ} → n ≤ 7 → r < n → r * n + n ≤ 49
+row-fits {n} {r} few h = let m : r + 1 ≤ 7 = omega arith in omega (arith, mul-le-mul m few, add-mul r 1 n)
+
+module _ (n r : ℕ) (es : List Slot) where
+  pub rows-turn : r < n → rowsFault n (n - r) (r * n) (drop (r * n) es) ≡
+      let row = take n (drop (r * n) es) in
+      orElse (entryFault 86400 fault.Time (r * n) row)
+      (orElse (when (not (regular (map timeOf row))) (fault.EmptyRow (r * n))) (rowsFault n (n - (r + 1)) ((r + 1) * n) (drop ((r + 1) * n) es)))
+  unfolding rowsFault
+  rows-turn h =
+      let m : n - r ≡ suc (n - (r + 1)) = omega arith in
+      let e : (r + 1) * n ≡ r * n + n = rw add-one (suc-mul r n) in
+      rw (m, e, ← (drop-drop n (r * n) es))
+
+  pub rows-end : n ≤ r → rowsFault n (n - r) (r * n) (drop (r * n) es) ≡ none
+  unfolding rowsFault
+  rows-end h = let m : n - r ≡ 0 = omega arith in rw m
+
+-- ---- what a judgement says of the fault that it was made of
+judged-some : (o : Option Fault) {f : Fault} → judgedBy o ≡ judged.Refused f → o ≡ some f
+unfolding judgedBy
+judged-some (some g) e = cc
+judged-some none e = cc
+
+judged-none : (o : Option Fault) → judgedBy o ≡ judged.Accepted → o ≡ none
+unfolding judgedBy
+judged-none (some g) e = cc
+judged-none none e = refl
+
+module _ {r : Judged} (o : Option Fault) (made : r ≡ judgedBy o) where
+  pub refused-for : {f : Fault} → r ≡ judged.Refused f → o ≡ some f
+  refused-for e = judged-some o (sym made ∙ e)
+
+  pub accepted : r ≡ judged.Accepted → o ≡ none
+  accepted e = judged-none o (sym made ∙ e)
+
+  -- of two faults, the first is judged before the second
+  module _ (p : Option Fault) where
+    pub first-refused : {f : Fault} → r ≡ judged.Refused f → judged.Refused f ≡ judgedBy (orElse o p)
+    unfolding judgedBy
+    first-refused e = simp (refused-for e)
+
+    pub first-accepted : r ≡ judged.Accepted → judgedBy p ≡ judgedBy (orElse o p)
+    first-accepted e = simp (accepted e)
+
+-- a table without a fault has few departures
+pub few : (c : Case) (low k : ℕ) → tableFault c low k ≡ none → c .n ≤ 7
+unfolding tableFault outside
+few c low k h = let facts = simp no-fault at h in omega arith

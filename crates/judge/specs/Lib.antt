@@ -1,0 +1,2 @@
+-- The judgement that a fault, or its absence, makes.
+pub mod Judgement

@@ -1,0 +1,157 @@
+// Judges an unpacked case: the first fault of a call for a verdict, and of a run.
+ghost use mathlib.Core.Path.{_≡_};
+ghost use mathlib.Core.List.{map};
+ghost use Prim.Native.Nat.{_≤_, _<_, _^_};
+ghost use lib.ListN.{take};
+ghost use Rattle.model.specs.declared.Fault.the-variants as fault;
+ghost use Rattle.model.specs.Faults;
+ghost use Rattle.model.specs.Faults.{present, entryFault, rowsFault, tableFault, patternsFault, roomFault, callFault, runFault};
+ghost use Rattle.judge.specs.Judgement.{judgedBy};
+use ints::Cycle;
+use ints::Seconds;
+use model::BOUNDS;
+use model::Case;
+use model::DEPARTURES;
+use model::Fault;
+use model::Judged;
+use model::Slot;
+use model::TIMES;
+
+// Below low or above high.
+fn outside(low: usize, high: usize, k: usize) -> bool
+    ensures { λ r. ⌜ r ≡ Faults.outside low high k ⌝ }
+{
+    k < low || high < k
+}
+
+// Present, and more than limit in size.
+fn beyond(slot: Slot, limit: u64) -> bool
+    requires { ⌜ limit < 2 ^ 63 ⌝ }
+    ensures { λ r. ⌜ r ≡ Faults.beyond limit slot ⌝ }
+{
+    slot.has && slot.value.beyond(limit)
+}
+
+// Faults 4 and 5: each row's entries, then whether it holds a time.
+fn rows_fault(times: [Slot; TIMES], n: usize) -> Judged
+    requires { ⌜ n ≤ 7 ⌝ }
+    ensures { λ r. ⌜ r ≡ judgedBy (rowsFault n n 0 times) ⌝ }
+{
+    let mut judged = Judged::Accepted;
+    'rows: for row in 0..n {
+        let first = row * n;
+        let mut some = false;
+        for column in 0..n {
+            let k = first + column;
+            let slot = times[k];
+            if beyond(slot, 86400) {
+                judged = Judged::Refused(Fault::Time(k));
+                break 'rows;
+            }
+            some = some | slot.has;
+        }
+        if !some {
+            judged = Judged::Refused(Fault::EmptyRow(first));
+            break 'rows;
+        }
+    }
+    judged
+}
+
+// Fault 6 of one pattern: its first count entries, numbered from offset on.
+fn bounds_fault(bounds: [Slot; BOUNDS], count: usize, offset: usize) -> Judged
+    requires { ⌜ (count ≤ 56) × (offset ≤ 56) ⌝ }
+    ensures { λ r. ⌜ r ≡ judgedBy (entryFault 1000000 fault.Bound offset (take count bounds)) ⌝ }
+{
+    for i in 0..count {
+        let slot = bounds[i];
+        if beyond(slot, 1000000) {
+            return Judged::Refused(Fault::Bound(offset + i));
+        }
+    }
+    Judged::Accepted
+}
+
+// Fault 13: the first n start times.
+fn starts_fault(start: [Seconds; DEPARTURES], n: usize) -> Judged
+    requires { ⌜ n ≤ 7 ⌝ }
+    ensures { λ r. ⌜ r ≡ judgedBy (entryFault 1000000000000 fault.StartTime 0 (map (λ x. present (x .0)) (take n start))) ⌝ }
+{
+    for i in 0..n {
+        let x = start[i];
+        if x.beyond(1000000000000) {
+            return Judged::Refused(Fault::StartTime(i));
+        }
+    }
+    Judged::Accepted
+}
+
+// Faults 2 to 5, fault 3 for k cycles of which there are to be at least low.
+fn table_fault(case: Case, low: usize, k: usize) -> Judged
+    ensures { λ r. ⌜ r ≡ judgedBy (tableFault case low k) ⌝ }
+{
+    let n = case.n;
+    if outside(1, 7, n) {
+        return Judged::Refused(Fault::Departures);
+    }
+    if outside(low, 64, k) {
+        return Judged::Refused(Fault::Horizon);
+    }
+    let times = case.times;
+    rows_fault(times, n)
+}
+
+// Fault 6: the start, then the target, whose entries are numbered after those of the start.
+fn patterns_fault(case: Case) -> Judged
+    requires { ⌜ case .n ≤ 7 ⌝ }
+    ensures { λ r. ⌜ r ≡ judgedBy (patternsFault case) ⌝ }
+{
+    let n = case.n;
+    let size = n * (n + 1);
+    let start = case.start;
+    let target = case.target;
+    if let Judged::Refused(f) = bounds_fault(start, size, 0) {
+        return Judged::Refused(f);
+    }
+    bounds_fault(target, size, size)
+}
+
+// Faults 9 and 10. The product is formed only where it is small.
+fn room_fault(n: usize, capacity: usize, size: usize) -> Judged
+    requires { ⌜ n ≤ 7 ⌝ }
+    ensures { λ r. ⌜ r ≡ judgedBy (roomFault n capacity size) ⌝ }
+{
+    if outside(1, 4096, capacity) {
+        return Judged::Refused(Fault::Capacity);
+    }
+    if size < 2 * capacity * (n + 1) * (n + 1) {
+        return Judged::Refused(Fault::Workspace);
+    }
+    Judged::Accepted
+}
+
+// The first fault of a call for a verdict, capacity being Z and size the length of the workspace.
+pub fn call_fault(case: Case, capacity: usize, size: usize) -> Judged
+    ensures { λ r. ⌜ r ≡ judgedBy (callFault case capacity size) ⌝ }
+{
+    let n = case.n;
+    let horizon = case.horizon;
+    if let Judged::Refused(f) = table_fault(case, 1, horizon.0) {
+        return Judged::Refused(f);
+    }
+    if let Judged::Refused(f) = patterns_fault(case) {
+        return Judged::Refused(f);
+    }
+    room_fault(n, capacity, size)
+}
+
+// The first fault of a run from some start times to a cycle.
+pub fn run_fault(case: Case, start: [Seconds; DEPARTURES], cycle: Cycle) -> Judged
+    ensures { λ r. ⌜ r ≡ judgedBy (runFault case start (cycle .0)) ⌝ }
+{
+    let n = case.n;
+    if let Judged::Refused(f) = table_fault(case, 0, cycle.0) {
+        return Judged::Refused(f);
+    }
+    starts_fault(start, n)
+}

@@ -1,0 +1,9 @@
+pub mod Memory
+pub mod Keeping
+pub mod Extensions
+pub mod Columns
+pub mod Selecting
+pub mod Going
+pub mod Starting
+pub mod Pulling
+pub mod Looking

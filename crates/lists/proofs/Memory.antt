@@ -1,0 +1,155 @@
+-- Lists of zones in memory: the tests of equality, place by place, and one zone more.
+use Prim.Native.Nat.{ℕ, zero, suc, _+_, _*_, _-_, _≤_, _<_}
+use native.Mathlib.Omega.{arith}
+use native.Mathlib.Nat.{mul-le-mul-right, suc-mul}
+use native.Mathlib.Numerals.{add-one}
+use mathlib.Core.Path.{_≡_, refl, sym, ap, ap₂, _∙_}
+use mathlib.Core.Bool.{Bool, true, false, _&&_, _||_, cond}
+use mathlib.Core.List.{List, [], _∷_, _++_, append-assoc}
+use lib.IntN.{ℤ, pos}
+use lib.ListN.{length, take, drop, getD, length-map, length-take, length-drop, drop-of-length-le, List·getD-append}
+use lib.Seq.{drop-cons, getD-take, getD-drop, drop-append-add, drop-drop, take-all, take-at, drop-at, length-take-le, ext-getD, paste, length-paste, length-paste-head}
+use lib.Dec.{eqb}
+use borrow.Author.Tests.{eqb-true, eq-eqb}
+use mir.Syntax.{Width}
+use mir.Val.{SFits, toZ, ofZ}
+use mir.ValLaws.{toZ-ofZ}
+use Rattle.model.specs.Lists.{tabulate, anyOf, sameLists}
+use Rattle.model.specs.Bound as B
+use Rattle.model.specs.Bound.{Bound, most, sameZ, sameBound}
+use Rattle.model.specs.Matrix.{Matrix}
+use Rattle.model.proofs.Tabulated.{tabulate-ext, tabulate-snoc}
+use Rattle.model.proofs.Same.{sameZ-true, sameZ-refl, sameBound-true, sameBound-refl}
+use Rattle.zones.specs.Memory.{boundIn, boundsIn}
+use Rattle.lists.specs.Lists.{zoneAt, listIn}
+
+-- two tests that pass together are one
+same-test : (s t : Bool) → (s ≡ true → t ≡ true) → (t ≡ true → s ≡ true) → s ≡ t
+same-test true t f g = sym (f refl)
+same-test false true f g = g refl
+same-test false false f g = refl
+
+-- equal bits are equal numbers
+pub equal-bits : (w : Width) (a b : ℤ) → SFits w a → SFits w b → eqb (ofZ w a) (ofZ w b) ≡ sameZ a b
+equal-bits w a b f g = same-test _ _
+    (λ e. let same : a ≡ b = sym (toZ-ofZ w a f) ∙ ap (toZ w) (eqb-true (ofZ w a) (ofZ w b) e) ∙ toZ-ofZ w b g in rw same (sameZ-refl b))
+    (λ e. eq-eqb (ofZ w a) (ofZ w b) (ap (ofZ w) (sameZ-true a b e)))
+
+-- equal numbers in memory are equal bounds
+boundIn-injective : (a b : ℤ) → boundIn a ≡ boundIn b → a ≡ b
+unfolding boundIn
+boundIn-injective a b e = go (sameZ a (pos 2147483647)) (sameZ b (pos 2147483647)) refl refl e
+  where
+    go : (s t : Bool) → sameZ a (pos 2147483647) ≡ s → sameZ b (pos 2147483647) ≡ t
+        → cond s B.Bound.none (most a) ≡ cond t B.Bound.none (most b) → a ≡ b
+    go true true p q e = sameZ-true a _ p ∙ sym (sameZ-true b _ q)
+    go true false p q e = cc
+    go false true p q e = cc
+    go false false p q e = cc
+
+pub same-bound : (a b : ℤ) → sameBound (boundIn a) (boundIn b) ≡ sameZ a b
+same-bound a b = same-test _ _
+    (λ e. rw (boundIn-injective a b (sameBound-true _ _ e)) (sameZ-refl b))
+    (λ e. rw (sameZ-true a b e) (sameBound-refl (boundIn b)))
+
+-- ---- one place further on
+module _ {X : Type 0} (z : X) (t : X → X → Bool) (xs ys : List X) (long : length xs ≡ length ys) where
+  pub same-next : (p : ℕ) → p < length xs
+      → sameLists t (drop p xs) (drop p ys) ≡ (t (getD xs p z) (getD ys p z) && sameLists t (drop (p + 1) xs) (drop (p + 1) ys))
+  unfolding sameLists
+  same-next p h = rw (add-one p, drop-cons xs p z h, drop-cons ys p z (omega arith))
+
+pub getD-bounds : (xs : List ℤ) (p : ℕ) → p < length xs → getD (boundsIn xs) p B.Bound.none ≡ boundIn (getD xs p (pos 0))
+unfolding boundsIn
+getD-bounds [] p h = absurd (omega arith)
+getD-bounds (x ∷ xs) zero h = refl
+getD-bounds (x ∷ xs) (suc p) h = getD-bounds xs p (omega arith)
+
+pub length-bounds : (xs : List ℤ) → length (boundsIn xs) ≡ length xs
+unfolding boundsIn
+length-bounds xs = length-map xs boundIn
+
+module _ (size : ℕ) (work : List ℤ) (k : ℕ) (inside : k * size + size ≤ length work) where
+  pub length-zoneAt : length (zoneAt size work k) ≡ size
+  unfolding zoneAt
+  length-zoneAt = rw (length-bounds (take size (drop (k * size) work)), length-take size (drop (k * size) work), length-drop (k * size) work) (omega arith)
+
+  pub getD-zoneAt : (p : ℕ) → p < size → getD (zoneAt size work k) p B.Bound.none ≡ boundIn (getD work (k * size + p) (pos 0))
+  unfolding zoneAt
+  getD-zoneAt p h =
+      getD-bounds (take size (drop (k * size) work)) p (rw (length-take size (drop (k * size) work), length-drop (k * size) work) (omega arith))
+      ∙ ap boundIn (getD-take size (drop (k * size) work) p (pos 0) h ∙ getD-drop (k * size) work p (pos 0))
+
+-- zone k against a zone, from place p on
+pub zone-next : (size : ℕ) (work zone : List ℤ) (k : ℕ) → length zone ≡ size → k * size + size ≤ length work → (p : ℕ) → p < size
+    → sameLists sameBound (drop p (boundsIn zone)) (drop p (zoneAt size work k))
+    ≡ (sameZ (getD zone p (pos 0)) (getD work (k * size + p) (pos 0)) && sameLists sameBound (drop (p + 1) (boundsIn zone)) (drop (p + 1) (zoneAt size work k)))
+zone-next size work zone k fits inside p h =
+    same-next B.Bound.none sameBound (boundsIn zone) (zoneAt size work k) (length-bounds zone ∙ fits ∙ sym (length-zoneAt size work k inside)) p (rw (length-bounds zone, fits) h)
+    ∙ rw (getD-bounds zone p (omega arith), getD-zoneAt size work k inside p h, same-bound (getD zone p (pos 0)) (getD work (k * size + p) (pos 0)))
+
+pub zone-end : (size : ℕ) (work zone : List ℤ) (k : ℕ) → length zone ≡ size → k * size + size ≤ length work → (p : ℕ) → size ≤ p
+    → sameLists sameBound (drop p (boundsIn zone)) (drop p (zoneAt size work k)) ≡ true
+unfolding sameLists
+zone-end size work zone k fits inside p h =
+    rw (drop-of-length-le (boundsIn zone) {i = p} (rw (length-bounds zone) (omega arith)), drop-of-length-le (zoneAt size work k) {i = p} (rw (length-zoneAt size work k inside) h))
+
+pub any-next : {X : Type 0} (t : X → Bool) (f : ℕ → X) (n k : ℕ) → k < n → anyOf t (tabulate (n - k) k f) ≡ (t (f k) || anyOf t (tabulate (n - (k + 1)) (k + 1) f))
+unfolding anyOf tabulate
+any-next t f n k h = let e : n - k ≡ suc (n - (k + 1)) = omega arith in rw (e, add-one k)
+
+pub any-end : {X : Type 0} (t : X → Bool) (f : ℕ → X) (n k : ℕ) → n ≤ k → anyOf t (tabulate (n - k) k f) ≡ false
+unfolding anyOf tabulate
+any-end t f n k h = let e : n - k ≡ 0 = omega arith in rw e
+
+-- ---- one zone more
+module _ (size : ℕ) (list zone : List ℤ) (count : ℕ) (fits : length zone ≡ size) (inside : count * size + size ≤ length list) where
+  abbrev stored : List ℤ
+  stored = paste list (count * size) zone size
+
+  long : length stored ≡ length list
+  long = length-paste list (count * size) zone size inside (omega arith)
+
+  -- the zones before it are as they were
+  earlier : (k : ℕ) → k < count → zoneAt size stored k ≡ zoneAt size list k
+  earlier k h =
+      let within : k * size + size ≤ count * size = omega (arith, mul-le-mul-right size h, suc-mul k size) in
+      let in-stored : k * size + size ≤ length stored = rw long (omega arith) in
+      ext-getD B.Bound.none _ _ (length-zoneAt size stored k in-stored ∙ sym (length-zoneAt size list k (omega arith))) (λ p u.
+      let in-zone : p < size = rw (length-zoneAt size stored k in-stored) at u in
+      let head = take (count * size) list ++ take size zone in
+      getD-zoneAt size stored k in-stored p in-zone
+      ∙ ap boundIn
+      (List·getD-append head (drop (count * size + size) list) (pos 0) (k * size + p) (rw (length-paste-head list (count * size) zone size (omega arith) (omega arith)) (omega arith))
+      ∙ List·getD-append (take (count * size) list) (take size zone) (pos 0) (k * size + p) (rw (length-take-le (count * size) list (omega arith)) (omega arith))
+      ∙ getD-take (count * size) list (k * size + p) (pos 0) (omega arith))
+      ∙ sym (getD-zoneAt size list k (omega arith) p in-zone))
+
+  -- it is there
+  there : zoneAt size stored count ≡ boundsIn zone
+  unfolding zoneAt
+  there =
+      let whole : take size zone ≡ zone = take-all size zone (omega arith) in
+      ap boundsIn
+      (ap (λ (l : List ℤ). take size (drop (count * size) l)) (append-assoc (take (count * size) list) (take size zone) (drop (count * size + size) list))
+      ∙ ap (take size) (drop-at (take (count * size) list) _ (count * size) (length-take-le (count * size) list (omega arith)))
+      ∙ take-at (take size zone) _ size (rw whole fits) ∙ whole)
+
+  pub stored-list : listIn size (count + 1) stored ≡ listIn size count list ++ (boundsIn zone ∷ [])
+  unfolding listIn
+  stored-list =
+      let e : count + 1 ≡ suc count = omega arith in
+      let z : 0 + count ≡ count = omega arith in
+      rw e (sym (tabulate-snoc count 0 (zoneAt size stored))
+      ∙ ap₂ (λ (l : List Matrix) (m : Matrix). l ++ (m ∷ [])) (tabulate-ext count 0 (zoneAt size stored) (zoneAt size list) (λ k l u. earlier k (omega arith))) (ap (zoneAt size stored) z ∙ there))
+
+  -- and nothing behind it has changed
+  pub stored-beyond : (m : ℕ) → count * size + size ≤ m → drop m stored ≡ drop m list
+  stored-beyond m h =
+      let head = take (count * size) list ++ take size zone in
+      let l : length head ≡ count * size + size = length-paste-head list (count * size) zone size (omega arith) (omega arith) in
+      let e : m ≡ length head + (m - (count * size + size)) = omega arith in
+      let f : count * size + size + (m - (count * size + size)) ≡ m = omega arith in
+      ap (λ (j : ℕ). drop j stored) e
+      ∙ drop-append-add head (drop (count * size + size) list) (m - (count * size + size))
+      ∙ drop-drop (m - (count * size + size)) (count * size + size) list ∙ ap (λ (j : ℕ). drop j list) f

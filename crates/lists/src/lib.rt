@@ -1,0 +1,311 @@
+// Lists of zones in the workspace.
+ghost use mathlib.Core.Path.{_≡_};
+ghost use mathlib.Core.Bool.{_&&_};
+ghost use mathlib.Core.Option.{none, some};
+ghost use Prim.Native.Nat.{suc, _+_, _*_, _-_, _≤_, _<_};
+ghost use mathlib.Core.List.{[], _∷_, map, foldl};
+ghost use lib.ListN.{length, take, drop, set};
+ghost use lib.Seq.{paste};
+ghost use Rattle.model.specs.Lists.{anyOf};
+ghost use Rattle.model.specs.Bound.{sameZ};
+ghost use Rattle.model.specs.Matrix.{sameMatrix, everything, tighten};
+ghost use Rattle.model.specs.Pattern.{patternConstraints};
+ghost use Rattle.model.specs.Search.{keep, preimage, selections, previous, common, firstCommon};
+ghost use Rattle.zones.specs.Memory.{boundsIn, timesIn};
+ghost use Rattle.zones.specs.Conditions.{Left, CommonReady};
+ghost use Rattle.lists.specs.Lists.{zoneAt, listIn, Holds, Room, extensions, withColumn, partIn, Selecting, Sources, Halves, Meets, Meeting, foundBy};
+use ints::Seconds;
+
+const NONE: i32 = 2147483647;
+
+// A list made anew: its length, or that it has no room.
+pub struct Built {
+    pub count: usize,
+    pub full: bool,
+}
+
+// The start picked in what the first zone of a list that meets a pattern has in common with it, if there is one.
+pub struct Found {
+    pub some: bool,
+    pub start: [Seconds; 7],
+}
+
+fn equal(a: i32, b: i32) -> bool
+    ensures { λ r. ⌜ r ≡ sameZ a b ⌝ }
+{
+    a == b
+}
+
+// Zone k of the list is this one.
+fn same(list: &[i32], k: usize, zone: &[i32], size: usize) -> bool
+    requires { ⌜ (length (now zone) ≡ size) × (size ≤ 64) × (k < 4096) × (k * size + size ≤ length (now list)) ⌝ }
+    ensures { λ r. ⌜ r ≡ sameMatrix (boundsIn (now (zone .entry))) (zoneAt size (now (list .entry)) k) ⌝ }
+{
+    let base = k * size;
+    for p in 0..size {
+        let a = zone[p];
+        let b = list[base + p];
+        if !equal(a, b) {
+            return false;
+        }
+    }
+    true
+}
+
+// Some zone of the list is this one.
+fn has(list: &[i32], count: usize, zone: &[i32], size: usize) -> bool
+    requires { ⌜ (length (now zone) ≡ size) × (size ≤ 64) × (count ≤ 4096) × (count * size ≤ length (now list)) ⌝ }
+    ensures { λ r. ⌜ r ≡ anyOf (sameMatrix (boundsIn (now (zone .entry)))) (listIn size count (now (list .entry))) ⌝ }
+{
+    for k in 0..count {
+        if same(list, k, zone, size) {
+            return true;
+        }
+    }
+    false
+}
+
+// The zone, as zone k of the list.
+fn store(list: &mut [i32], k: usize, zone: &[i32], size: usize)
+    requires { ⌜ (length (now zone) ≡ size) × (size ≤ 64) × (k < 4096) × (k * size + size ≤ length (now list)) ⌝ }
+    ensures { λ r. ⌜ now (list .exit) ≡ paste (now (list .entry)) (k * size) (now (zone .entry)) size ⌝ }
+{
+    let base = k * size;
+    for p in 0..size {
+        let v = zone[p];
+        list[base + p] = v;
+    }
+}
+
+// A set is kept if it differs from all kept earlier.
+fn keep(list: &mut [i32], count: usize, capacity: usize, zone: &[i32], size: usize) -> Built
+    requires { ⌜ Room size capacity count (now list) × (length (now zone) ≡ size) ⌝ }
+    ensures { λ r. ⌜ Holds size capacity (keep (listIn size count (now (list .entry))) (some (boundsIn (now (zone .entry))))) r (now (list .entry)) (now (list .exit)) ⌝ }
+{
+    if has(list, count, zone, size) {
+        return Built { count, full: false };
+    }
+    if count == capacity {
+        return Built { count, full: true };
+    }
+    store(list, count, zone, size);
+    Built {
+        count: count + 1,
+        full: false,
+    }
+}
+
+// A set, in the first numbers of the array, if it is not empty.
+struct Part {
+    some: bool,
+    zone: [i32; 64],
+}
+
+// What column s of row i leaves of a set.
+fn with_column(
+    part: [i32; 64],
+    times: &[i32],
+    zone: &[i32],
+    cols: [usize; 8],
+    n: usize,
+    i: usize,
+    s: usize,
+) -> Part
+    requires { ⌜ Selecting n (now times) (now zone) part cols i × (i ≤ n) × (1 ≤ s) × (s ≤ n) ⌝ }
+    ensures { λ r. ⌜ Left (withColumn n (timesIn (now (times .entry))) (boundsIn (now (zone .entry))) (partIn n part) cols i s) (r .some) (take ((n + 1) * (n + 1)) (r .zone)) × (length (r .zone) ≡ 64) ⌝ }
+{
+    let place = (i - 1) * n + (s - 1);
+    let t = times[place];
+    if equal(t, NONE) {
+        return Part {
+            some: false,
+            zone: part,
+        };
+    }
+    let size = (n + 1) * (n + 1);
+    let mut next = part;
+    let some = zones::add_row(&mut next[..size], times, zone, &cols, n, i, s);
+    Part { some, zone: next }
+}
+
+// Column s is that of row i.
+fn picked(cols: [usize; 8], i: usize, s: usize) -> [usize; 8]
+    requires { ⌜ (i < 8) × (length cols ≡ 8) ⌝ }
+    ensures { λ r. ⌜ r ≡ set cols i s ⌝ }
+{
+    let mut more = cols;
+    more[i] = s;
+    more
+}
+
+// The sets of the selections with these columns in the rows before i, and any in rows i to n, put to the list.
+fn select(
+    list: &mut [i32],
+    count: usize,
+    capacity: usize,
+    times: &[i32],
+    zone: &[i32],
+    part: [i32; 64],
+    cols: [usize; 8],
+    n: usize,
+    i: usize,
+) -> Built
+    requires { ⌜ Room ((n + 1) * (n + 1)) capacity count (now list) × Selecting n (now times) (now zone) part cols i ⌝ }
+    ensures { λ r. ⌜ Holds ((n + 1) * (n + 1)) capacity (foldl keep (listIn ((n + 1) * (n + 1)) count (now (list .entry))) (extensions n (timesIn (now (times .entry))) (boundsIn (now (zone .entry))) (some (partIn n part)) (take i cols) i (suc n - i))) r (now (list .entry)) (now (list .exit)) ⌝ }
+{
+    let size = (n + 1) * (n + 1);
+    if n < i {
+        return keep(list, count, capacity, &part[..size], size);
+    }
+    let mut built = Built { count, full: false };
+    let mut s = 1;
+    while s <= n {
+        let next = with_column(part, times, zone, cols, n, i, s);
+        if next.some {
+            let more = picked(cols, i, s);
+            let set = next.zone;
+            built = select(
+                list,
+                built.count,
+                capacity,
+                times,
+                zone,
+                set,
+                more,
+                n,
+                i + 1,
+            );
+            if built.full {
+                return built;
+            }
+        }
+        s += 1;
+    }
+    built
+}
+
+// A zone of the workspace, copied to the first numbers of an array.
+fn load(work: &[i32], base: usize, size: usize) -> [i32; 64]
+    requires { ⌜ (size ≤ 64) × (base + size ≤ length (now work)) ⌝ }
+    ensures { λ r. ⌜ (take size r ≡ take size (drop base (now (work .entry)))) × (length r ≡ 64) ⌝ }
+{
+    let mut zone = [0i32; 64];
+    for p in 0..size {
+        let v = work[base + p];
+        zone[p] = v;
+    }
+    zone
+}
+
+// The set of all times.
+fn all_times(n: usize) -> [i32; 64]
+    requires { ⌜ (1 ≤ n) × (n ≤ 7) ⌝ }
+    ensures { λ r. ⌜ (partIn n r ≡ everything (suc n)) × (length r ≡ 64) ⌝ }
+{
+    let size = (n + 1) * (n + 1);
+    let mut zone = [0i32; 64];
+    zones::everything(&mut zone[..size], n);
+    zone
+}
+
+// What a set has in common with a pattern.
+fn meet(zone: [i32; 64], pattern: &[i32], n: usize) -> Part
+    requires { ⌜ CommonReady n (take ((n + 1) * (n + 1)) zone) (now pattern) × (length zone ≡ 64) ⌝ }
+    ensures { λ r. ⌜ Left (common n (partIn n zone) (boundsIn (now (pattern .entry)))) (r .some) (take ((n + 1) * (n + 1)) (r .zone)) × (length (r .zone) ≡ 64) ⌝ }
+{
+    let size = (n + 1) * (n + 1);
+    let mut next = zone;
+    let some = zones::common(&mut next[..size], pattern, n);
+    Part { some, zone: next }
+}
+
+// The preimages of a zone by all selections, put to the list.
+fn pull_back(
+    list: &mut [i32],
+    count: usize,
+    capacity: usize,
+    times: &[i32],
+    zone: [i32; 64],
+    n: usize,
+) -> Built
+    requires { ⌜ Room ((n + 1) * (n + 1)) capacity count (now list) × Sources n (now times) (partIn n zone ∷ []) × (length zone ≡ 64) ⌝ }
+    ensures { λ r. ⌜ Holds ((n + 1) * (n + 1)) capacity (foldl keep (listIn ((n + 1) * (n + 1)) count (now (list .entry))) (map (preimage n (timesIn (now (times .entry))) (partIn n zone)) (selections n (timesIn (now (times .entry))) n 1))) r (now (list .entry)) (now (list .exit)) ⌝ }
+{
+    let size = (n + 1) * (n + 1);
+    let part = all_times(n);
+    let cols = [0usize; 8];
+    select(
+        list,
+        count,
+        capacity,
+        times,
+        &zone[..size],
+        part,
+        cols,
+        n,
+        1,
+    )
+}
+
+// The list made from the list at source, at goal.
+pub fn next_list(
+    work: &mut [i32],
+    source: usize,
+    goal: usize,
+    count: usize,
+    capacity: usize,
+    times: &[i32],
+    n: usize,
+) -> Built
+    requires { ⌜ Halves n capacity source goal (now work) × (count ≤ capacity) × Sources n (now times) (listIn ((n + 1) * (n + 1)) count (drop source (now work))) ⌝ }
+    ensures { λ r. ⌜ Holds ((n + 1) * (n + 1)) capacity (previous n (timesIn (now (times .entry))) (listIn ((n + 1) * (n + 1)) count (drop source (now (work .entry))))) r (drop goal (now (work .entry))) (drop goal (now (work .exit))) × (take goal (now (work .exit)) ≡ take goal (now (work .entry))) ⌝ }
+{
+    let size = (n + 1) * (n + 1);
+    let mut built = Built {
+        count: 0,
+        full: false,
+    };
+    for k in 0..count {
+        let zone = load(work, source + k * size, size);
+        built = pull_back(&mut work[goal..], built.count, capacity, times, zone, n);
+        if built.full {
+            return built;
+        }
+    }
+    built
+}
+
+// List 0, at the front of the workspace: the target, or nothing.
+pub fn first_list(work: &mut [i32], pattern: &[i32], n: usize) -> usize
+    requires { ⌜ Meets n 1000000 (now pattern) × ((n + 1) * (n + 1) ≤ length (now work)) ⌝ }
+    ensures { λ r. ⌜ (listIn ((n + 1) * (n + 1)) r (now (work .exit)) ≡ keep [] (tighten (suc n) (patternConstraints n (boundsIn (now (pattern .entry)))))) × (r ≤ 1) × (drop ((n + 1) * (n + 1)) (now (work .exit)) ≡ drop ((n + 1) * (n + 1)) (now (work .entry))) ⌝ }
+{
+    let set = meet(all_times(n), pattern, n);
+    if !set.some {
+        return 0;
+    }
+    let zone = set.zone;
+    let size = (n + 1) * (n + 1);
+    store(work, 0, &zone[..size], size);
+    1
+}
+
+// The first zone of the list at base that meets the pattern.
+pub fn first_common(work: &[i32], base: usize, count: usize, pattern: &[i32], n: usize) -> Found
+    requires { ⌜ Meeting n base count (now work) (now pattern) ⌝ }
+    ensures { λ r. ⌜ r ≡ foundBy n (firstCommon n (boundsIn (now (pattern .entry))) (listIn ((n + 1) * (n + 1)) count (drop base (now (work .entry))))) ⌝ }
+{
+    let size = (n + 1) * (n + 1);
+    for k in 0..count {
+        let set = meet(load(work, base + k * size, size), pattern, n);
+        if set.some {
+            let zone = set.zone;
+            let start = zones::pick(&zone[..size], n);
+            return Found { some: true, start };
+        }
+    }
+    Found {
+        some: false,
+        start: [Seconds(0); 7],
+    }
+}

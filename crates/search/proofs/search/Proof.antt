@@ -1,0 +1,106 @@
+-- Cycle after cycle; the two halves change places.
+use borrow.Author.Needs.{needs}
+use native.Mathlib.Omega.{arith}
+use native.Mathlib.Numerals.{add-one}
+use Prim.Native.Nat.{_+_, _*_, _-_}
+use mathlib.Core.Path.{_≡_, refl, sym, ap, _∙_}
+use Rattle.model.specs.Search.{lists}
+use Rattle.lists.proofs.Columns.{few-bounds}
+use Rattle.search.specs.Searching.{Searchable}
+use Rattle.model.specs.Answers.{answered}
+use Rattle.search.proofs.Searching.{Reached, same-room, target-meets, zone-room, half-small, begun, source-in, past, stepping, ended, onward}
+use Rattle.search.proofs.search.Statement.{statement}
+use Rattle.search.proofs.search.Tie as tie
+
+abbrev Inv-loop : tie.InvT-loop
+Inv-loop work₀ capacity times start target n cycles end half count₀ source₀ k₀ work count source k =
+    (q : Searchable n capacity cycles work₀ times start target) × Reached q work count source k × (half ≡ capacity * ((n + 1) * (n + 1)))
+
+abbrev μ-loop : tie.MeasureT-loop
+μ-loop work₀ capacity times start target n cycles end half count₀ source₀ k₀ work count source k = cycles - k
+
+add-half : tie.Need-add-half Inv-loop μ-loop
+add-half c = search needs
+
+add-half-2 : tie.Need-add-half-2 Inv-loop μ-loop
+add-half-2 c = search needs
+
+mul-half : tie.Need-mul-half Inv-loop μ-loop
+mul-half c = omega (arith, few-bounds (c .pre .few))
+
+mul-half-2 : tie.Need-mul-half-2 Inv-loop μ-loop
+mul-half-2 c = omega (arith, half-small (c .pre))
+
+first-list-requires : tie.Need-first-list-requires Inv-loop μ-loop
+first-list-requires c κs = let q = c .before .pre in (target-meets q, zone-room q)
+
+loop-holds : tie.Need-loop-holds Inv-loop μ-loop
+unfolding lists
+loop-holds c =
+    let q = same-room (c .before .before .before .pre) (c .before .first-list .kept .0) in
+    (q, begun q (c .before .first-list .ensures .0) (c .before .first-list .ensures .1), refl)
+
+sub-goal : tie.Need-sub-goal Inv-loop μ-loop
+sub-goal c = let i = c .before .loop .inv in source-in (i .0) (i .1)
+
+add-k : tie.Need-add-k Inv-loop μ-loop
+add-k c = let q = c .before .loop .inv .0 in omega (arith, q .few-cycles, c .loop-test .taken)
+
+one-cycle-requires : tie.Need-one-cycle-requires Inv-loop μ-loop
+one-cycle-requires c κs = let i = c .before .before .loop .inv in stepping (i .0) (i .1) (c .before .loop-test .taken)
+
+same-length : tie.Need-same-length Inv-loop μ-loop
+same-length c =
+    let o = c .before .before .before in
+    let l = o .before .before .before in
+    o .one-cycle .kept .0 ∙ l .loop .inv .1 .long ∙ l .before .before .first-list .kept .0
+
+returns : tie.Need-returns Inv-loop μ-loop
+returns c =
+    let o = c .before .before .before in
+    let l = o .before .before .before in
+    ended (l .loop .inv .0) (l .loop .inv .1) (o .before .before .loop-test .taken) (rw (add-one (l .loop .k)) at (o .one-cycle .ensures)) _ (c .before .if1 .taken)
+
+loop-less : tie.Need-loop-less Inv-loop μ-loop
+loop-less c = let i = c .before .before .before .before .loop-test .taken in omega arith
+
+loop-again : tie.Need-loop-again Inv-loop μ-loop
+loop-again c =
+    let o = c .before .before in
+    let l = o .before .before .before in
+    let r = onward (l .loop .inv .0) (l .loop .inv .1) (o .before .before .loop-test .taken) (rw (add-one (l .loop .k)) at (o .one-cycle .ensures)) (c .if1 .left) (o .one-cycle .kept .0) in
+    (l .loop .inv .0, rw (add-one (l .loop .k)) r, refl)
+
+plain-requires : tie.Need-plain-requires Inv-loop μ-loop
+plain-requires c κs = search needs
+
+same-length-2 : tie.Need-same-length-2 Inv-loop μ-loop
+same-length-2 c = let l = c .before .before in l .loop .inv .1 .long ∙ l .before .before .first-list .kept .0
+
+returns-2 : tie.Need-returns-2 Inv-loop μ-loop
+returns-2 c =
+    let l = c .before .before in
+    λ e f. c .plain .ensures ∙ sym f ∙ ap answered (sym (past (l .loop .inv .0) (l .loop .k) (l .loop .inv .1) (c .before .loop-test .left) e))
+
+pub search-spec : {M : Type 1} → statement M
+search-spec =
+    tie.close
+    (tie.spec
+    Inv-loop
+    μ-loop
+    add-half
+    add-half-2
+    mul-half
+    mul-half-2
+    first-list-requires
+    loop-holds
+    sub-goal
+    add-k
+    one-cycle-requires
+    same-length
+    returns
+    loop-less
+    loop-again
+    plain-requires
+    same-length-2
+    returns-2)

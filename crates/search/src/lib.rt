@@ -1,0 +1,108 @@
+// The search: list after list, until one meets the start, the table is full, or the cycles are searched.
+ghost use mathlib.Core.Path.{_≡_};
+ghost use Prim.Native.Nat.{suc, _+_, _*_, _≤_, _<_};
+ghost use mathlib.Core.List.{[]};
+ghost use lib.ListN.{length, drop};
+ghost use Rattle.model.specs.Search.{previous};
+ghost use Rattle.model.specs.Answers.{sevenTimes};
+ghost use Rattle.zones.specs.Memory.{boundsIn, timesIn};
+ghost use Rattle.lists.specs.Lists.{listIn};
+ghost use Rattle.search.specs.Searching.{networkIn, Searchable, Stepping, Stepped, Searched};
+use ints::Cycle;
+use ints::Seconds;
+use model::Answer;
+use model::Fault;
+use model::Verdict;
+
+// What a list says: the search ends with this answer, or goes on with a list of count zones.
+struct Step {
+    ended: bool,
+    count: usize,
+    answer: Answer,
+}
+
+// An answer without a start.
+pub fn plain(verdict: Verdict) -> Answer
+    ensures { λ r. ⌜ r ≡ record { verdict = verdict; start = sevenTimes [] } ⌝ }
+{
+    Answer {
+        verdict,
+        start: [Seconds(0); 7],
+    }
+}
+
+// One cycle: makes list k at goal from the list at source, and looks through it.
+fn one_cycle(
+    work: &mut [i32],
+    source: usize,
+    goal: usize,
+    count: usize,
+    capacity: usize,
+    times: &[i32],
+    start: &[i32],
+    n: usize,
+    k: usize,
+) -> Step
+    requires { ⌜ Stepping n capacity source goal count (now work) (now times) (now start) ⌝ }
+    ensures { λ r. ⌜ Stepped n capacity k goal (boundsIn (now (start .entry))) (previous n (timesIn (now (times .entry))) (listIn ((n + 1) * (n + 1)) count (drop source (now (work .entry))))) (now (work .exit)) r ⌝ }
+{
+    let built = lists::next_list(work, source, goal, count, capacity, times, n);
+    if built.full {
+        let answer = plain(Verdict::Refused(Fault::TableFull(Cycle(k))));
+        return Step {
+            ended: true,
+            count: 0,
+            answer,
+        };
+    }
+    let found = lists::first_common(work, goal, built.count, start, n);
+    if found.some {
+        let start = found.start;
+        let answer = Answer {
+            verdict: Verdict::Reached(Cycle(k)),
+            start,
+        };
+        return Step {
+            ended: true,
+            count: 0,
+            answer,
+        };
+    }
+    let answer = plain(Verdict::Clear(Cycle(k)));
+    Step {
+        ended: false,
+        count: built.count,
+        answer,
+    }
+}
+
+// The answer of a search over so many cycles; end is the verdict of getting past them. What the workspace holds afterwards is free.
+pub fn search(
+    work: &mut [i32],
+    capacity: usize,
+    times: &[i32],
+    start: &[i32],
+    target: &[i32],
+    n: usize,
+    cycles: usize,
+    end: Verdict,
+) -> Answer
+    requires { ⌜ Searchable n capacity cycles (now work) (now times) (now start) (now target) ⌝ }
+    ensures { λ r. ⌜ Searched (networkIn n cycles (now (times .entry)) (now (start .entry)) (now (target .entry))) capacity cycles end r ⌝ }
+{
+    let half = capacity * ((n + 1) * (n + 1));
+    let mut count = lists::first_list(work, target, n);
+    let mut source = 0;
+    let mut k = 0;
+    while k < cycles {
+        let goal = half - source;
+        k += 1;
+        let next = one_cycle(work, source, goal, count, capacity, times, start, n, k);
+        if next.ended {
+            return next.answer;
+        }
+        count = next.count;
+        source = goal;
+    }
+    plain(end)
+}

@@ -1,0 +1,158 @@
+-- The start that is picked, departure by departure.
+use Prim.Native.Nat.{ℕ, zero, suc, _+_, _-_, _*_, _≤_, _<_}
+use native.Mathlib.Omega.{arith}
+use mathlib.Core.Path.{_≡_, refl, sym, ap, ap₂, _∙_}
+use mathlib.Core.List.{List, [], _∷_, _++_, map, append-assoc, map-append}
+use lib.IntN.{ℤ, pos, negℤ, natAbs}
+use lib.ListN.{length, getD, set, drop, replicate, length-append, length-map, List·getD-append, List·getD-map}
+use lib.Seq.{set-append-seam}
+use Rattle.ints.specs.declared.Seconds.{Seconds}
+use Rattle.ints.proofs.Integers.{ints, neg-ud, abs-ud}
+use Rattle.model.specs.Lists.{tabulate, padded}
+use Rattle.model.specs.Bound as B
+use Rattle.model.specs.Bound.{Bound, most, plus, tighter}
+use Rattle.model.specs.Matrix.{Matrix, entry}
+use Rattle.model.specs.Network.{clocked}
+use Rattle.model.specs.Search.{tightest, above, below, leastOr, choices, pick}
+use Rattle.model.specs.Answers.{seconds, sevenTimes}
+use Rattle.model.proofs.Bounds.{tighter-either}
+use Rattle.model.proofs.Listed.{Every, done, both, every-append, every-map}
+use Rattle.model.proofs.Tabulated.{tabulate-ext}
+use Rattle.model.proofs.Attained.{earliest, latest}
+use Rattle.model.proofs.Size.{Small, free, sized, small-mono}
+use Rattle.zones.specs.Inner.{InMemory, values}
+use Rattle.zones.proofs.Numbers.{small-sum}
+use Rattle.zones.proofs.Toward.{from, from-next, from-end, from-first}
+
+pub neg-small : {B : ℕ} (z : ℤ) → natAbs z ≤ B → natAbs (negℤ z) ≤ B
+neg-small z h = omega (ints, neg-ud z, abs-ud z, abs-ud (negℤ z))
+
+pub least-small : {B : ℕ} {w u : Bound} → Small B w → Small B u → natAbs (leastOr w u) ≤ B
+unfolding leastOr
+least-small (sized {z} h) s = neg-small z h
+least-small free (sized h) = h
+least-small free free = omega arith
+
+pub clocked-at : (xs : List ℤ) (s : ℕ) → 1 ≤ s → clocked xs s ≡ getD xs (s - 1) (pos 0)
+unfolding clocked
+clocked-at xs zero h = absurd (omega arith)
+clocked-at xs (suc s) h = ap (λ (i : ℕ). getD xs i (pos 0)) (omega arith)
+
+-- ---- one departure
+-- what the departure s, of time x s, says of how early departure t may be, negated, and how late
+abbrev pub early-term : ℕ → Matrix → ℕ → (ℕ → ℤ) → ℕ → Bound
+early-term n d t x s = plus (entry (suc n) d s t) (most (negℤ (x s)))
+
+abbrev pub late-term : ℕ → Matrix → ℕ → (ℕ → ℤ) → ℕ → Bound
+late-term n d t x s = plus (entry (suc n) d t s) (most (x s))
+
+pub term-small : (t : ℕ) {b : Bound} (z : ℤ) → Small InMemory b → natAbs z ≤ t * InMemory → Small (suc t * InMemory) (plus b (most z))
+term-small t z h k = small-mono (omega arith) (small-sum {C = t * InMemory} h (sized {z = z} k))
+
+-- b is the tightest of the terms f s, .., f (t - 1)
+pub record Tightest (t : ℕ) (f : ℕ → Bound) (s : ℕ) (b : Bound) : Type 0 where
+  pub upto : s ≤ t
+  pub is : b ≡ tightest (from f t s)
+  pub small : Small (suc t * InMemory) b
+
+pub tightest-start : (t : ℕ) (f : ℕ → Bound) → Tightest t f t B.Bound.none
+unfolding tightest
+tightest-start t f = record { upto = omega arith; is = rw (from-end f t t (omega arith)); small = free }
+
+module _ {t : ℕ} {f : ℕ → Bound} {s : ℕ} {b : Bound} (w : Tightest t f s b) where
+  -- one more, c
+  pub tightest-step : (c : Bound) → 1 ≤ s → Small (suc t * InMemory) c → c ≡ f (s - 1) → Tightest t f (s - 1) (tighter c b)
+  unfolding tightest
+  tightest-step c h small e =
+      let u = w .upto in
+      let k : s - 1 + 1 ≡ s = omega arith in
+      record {
+        upto = omega arith;
+        is = ap₂ tighter e (w .is) ∙ sym (ap tightest (from-next f t (s - 1) (omega arith)) ∙ ap (λ (r : ℕ). tighter (f (s - 1)) (tightest (from f t r))) k);
+        small = tighter-either (Small (suc t * InMemory)) c b small (w .small);
+      }
+
+  -- all
+  pub tightest-done : s ≤ 0 → b ≡ tightest (tabulate t 0 f)
+  tightest-done h =
+      let e : s ≡ 0 = omega arith in
+      w .is ∙ rw e (ap tightest (sym (from-first f t 0 t (omega arith))))
+
+-- ---- all departures
+-- a list in the front of an array, and one more element
+stored : {X : Type 0} (z : X) (size : ℕ) (xs : List X) (x : X) → length xs < size → set (padded z size xs) (length xs) x ≡ padded z size (xs ++ (x ∷ []))
+stored z size xs x h =
+    let k : size - length xs ≡ suc (size - (length xs + 1)) = omega arith in
+    rw (k, length-append xs (x ∷ []), set-append-seam xs z (replicate (size - (length xs + 1)) z) x) (sym (append-assoc xs (x ∷ []) _))
+
+-- the times of the departures before t are picked, and small; the others are still to be picked
+pub record Picking (n : ℕ) (d : Matrix) (times : List Seconds) (t : ℕ) : Type 0 where
+  pub ys : List ℤ
+  pub count : suc (length ys) ≡ t
+  pub upto : t ≤ suc n
+  pub are : times ≡ sevenTimes ys
+  pub rest : choices (suc n) d (suc n - t) (pos 0 ∷ ys) ≡ choices (suc n) d n (pos 0 ∷ [])
+  pub small : Every (λ y. natAbs y ≤ t * InMemory) ys
+
+pub picking-start : (n : ℕ) (d : Matrix) → Picking n d (sevenTimes []) 1
+picking-start n d = record {
+  ys = [];
+  count = refl;
+  upto = omega arith;
+  are = refl;
+  rest = ap (λ (r : ℕ). choices (suc n) d r (pos 0 ∷ [])) (omega arith);
+  small = done;
+}
+
+every-at : {P : ℤ → Type 0} {xs : List ℤ} (i : ℕ) → Every P xs → P (pos 0) → P (getD xs i (pos 0))
+every-at i done z = z
+every-at zero (both h hs) z = h
+every-at (suc i) (both h hs) z = every-at i hs z
+
+-- a time before t is that of the list
+clocked-seven : (ys : List ℤ) (s : ℕ) → s < suc (length ys) → clocked (values (sevenTimes ys)) s ≡ getD (pos 0 ∷ ys) s (pos 0)
+unfolding clocked
+clocked-seven ys zero h = refl
+clocked-seven ys (suc i) h =
+    List·getD-map (λ x. x .0) (sevenTimes ys) i (seconds (pos 0))
+    ∙ ap (λ (x : Seconds). x .0) (List·getD-append (map seconds ys) _ (seconds (pos 0)) i (rw (length-map ys seconds) (omega arith)) ∙ List·getD-map seconds ys i (pos 0))
+
+module _ {n : ℕ} {d : Matrix} {times : List Seconds} {t : ℕ} (w : Picking n d times t) where
+  at-before : (s : ℕ) → s < t → clocked (values times) s ≡ getD (pos 0 ∷ w .ys) s (pos 0)
+  at-before s h = let c = w .count in rw (w .are) (clocked-seven (w .ys) s (omega arith))
+
+  pub times-small : (s : ℕ) → s < t → natAbs (clocked (values times) s) ≤ t * InMemory
+  times-small s h = rw (at-before s h) (every-at s (both (omega arith) (w .small)) (omega arith))
+
+  -- the choice
+  choice-is : leastOr (earliest (suc n) d t (clocked (values times))) (latest (suc n) d t (clocked (values times)))
+      ≡ leastOr (below (suc n) d (pos 0 ∷ w .ys)) (above (suc n) d (pos 0 ∷ w .ys))
+  unfolding below above
+  choice-is =
+      let c = w .count in
+      rw c (ap₂ (λ b e. leastOr (tightest b) (tightest e))
+      (tabulate-ext t 0 _ _ (λ s l u. rw (at-before s (omega arith))))
+      (tabulate-ext t 0 _ _ (λ s l u. rw (at-before s (omega arith)))))
+
+  pub picking-step : (v : Seconds) → t ≤ n → n ≤ 7 → natAbs (v .0) ≤ suc t * InMemory
+      → v .0 ≡ leastOr (earliest (suc n) d t (clocked (values times))) (latest (suc n) d t (clocked (values times)))
+      → Picking n d (set times (t - 1) v) (t + 1)
+  unfolding choices
+  picking-step v h few small is =
+      let c = w .count in
+      let r : suc n - t ≡ suc (suc n - (t + 1)) = omega arith in
+      let k : t - 1 ≡ length (map seconds (w .ys)) = omega (arith, length-map (w .ys) seconds) in
+      record {
+        ys = w .ys ++ (v .0 ∷ []);
+        count = rw (length-append (w .ys) (v .0 ∷ [])) (omega arith);
+        upto = omega arith;
+        are = rw (w .are, k) (stored (seconds (pos 0)) 7 (map seconds (w .ys)) v (omega arith) ∙ ap (padded (seconds (pos 0)) 7) (sym (map-append seconds (w .ys) (v .0 ∷ []))));
+        rest = rw (is ∙ choice-is) (rw r at (w .rest));
+        small = every-append (every-map (λ y l. omega arith) (w .small)) (both (omega arith) done);
+      }
+
+  pub picking-done : suc n ≤ t → times ≡ sevenTimes (pick n d)
+  unfolding pick choices
+  picking-done h =
+      let z : suc n - t ≡ 0 = omega arith in
+      w .are ∙ ap (λ (xs : List ℤ). sevenTimes (drop 1 xs)) (rw z at (w .rest))

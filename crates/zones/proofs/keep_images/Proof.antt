@@ -1,0 +1,89 @@
+-- Row by row before row i.
+use Prim.Native.Nat.{suc, _-_, _≤_}
+use native.Mathlib.Omega.{arith}
+use mathlib.Core.Path.{_≡_, refl, ap}
+use mathlib.Core.List.{foldl, flatten}
+use mathlib.Core.Option.{some}
+use lib.ListN.{length}
+use Rattle.model.specs.Matrix.{constrain}
+use Rattle.zones.specs.Memory.{boundsIn, timesIn}
+use Rattle.zones.specs.Inner.{imagePairs, images}
+use Rattle.zones.proofs.Toward.{Toward, toward-start, first-of, given-up, onward, arrived, from, from-first, next-list, end-list}
+use Rattle.zones.proofs.keep_images.Statement.{statement}
+use Rattle.zones.proofs.keep_images.Tie as tie
+
+abbrev Inv-loop : tie.InvT-loop
+Inv-loop part₀ times zone cols n i s last l₀ part l =
+    Toward (foldl (constrain (suc n)) (some (boundsIn part₀)) (images n (timesIn times) (boundsIn zone) cols i s)) n part
+    (flatten (from (imagePairs n (timesIn times) (boundsIn zone) cols i s) i l))
+    × (l ≤ i) × (length part ≡ length part₀)
+
+abbrev μ-loop : tie.MeasureT-loop
+μ-loop part₀ times zone cols n i s last l₀ part l = i - l
+
+loop-holds : tie.Need-loop-holds Inv-loop μ-loop
+loop-holds c =
+    let s = c .before in
+    (toward-start (s .pre .taking) (ap flatten (from-first _ (s .args .i) 0 (s .args .i) (omega arith))), omega arith, refl)
+
+mul-t : tie.Need-mul-t Inv-loop μ-loop
+mul-t c = let s = c .before .before .before in omega (arith, s .pre .adds .row, s .pre .adds .table .few)
+
+shared-slice-read-t : tie.Need-shared-slice-read-t Inv-loop μ-loop
+shared-slice-read-t c = let s = c .before .before .before .before in omega (arith, s .pre .cols-size)
+
+keep-both-requires : tie.Need-keep-both-requires Inv-loop μ-loop
+keep-both-requires c κs =
+    let l = c .before .before in
+    let p = l .before .before .before .pre in
+    record {
+      taking = first-of (next-list _ _ _ (l .loop-test .taken)) (l .before .loop .inv .0);
+      size = p .size;
+      adds = p .adds;
+      adds-other = record { table = p .adds .table; row = omega (arith, p .adds .row); column = p .columns _ (l .loop-test .taken) };
+    }
+
+same-length : tie.Need-same-length Inv-loop μ-loop
+same-length c = omega arith
+
+returns : tie.Need-returns Inv-loop μ-loop
+returns c =
+    let k = c .before .before in
+    let l = k .before .before .before in
+    given-up (next-list _ _ _ (l .loop-test .taken)) (l .before .loop .inv .0) (k .keep-both .ensures) (c .if1 .taken)
+
+add-l : tie.Need-add-l Inv-loop μ-loop
+add-l c = let s = c .before .before .before .before .before .before .before .before in omega (arith, s .pre .adds .row, s .pre .adds .table .few)
+
+loop-less : tie.Need-loop-less Inv-loop μ-loop
+loop-less c = omega arith
+
+loop-again : tie.Need-loop-again Inv-loop μ-loop
+loop-again c =
+    let k = c .before .before in
+    let l = k .before .before .before in
+    (onward (next-list _ _ _ (l .loop-test .taken)) (l .before .loop .inv .0) (k .keep-both .ensures) (c .if1 .left), omega arith, omega arith)
+
+same-length-2 : tie.Need-same-length-2 Inv-loop μ-loop
+same-length-2 c = c .before .loop .inv .2
+
+returns-2 : tie.Need-returns-2 Inv-loop μ-loop
+returns-2 c = arrived (c .before .loop .inv .0) (end-list _ _ _ (omega arith))
+
+pub keep-images-spec : {M : Type 1} → statement M
+keep-images-spec =
+    tie.close
+    (tie.spec
+    Inv-loop
+    μ-loop
+    loop-holds
+    mul-t
+    shared-slice-read-t
+    keep-both-requires
+    same-length
+    returns
+    add-l
+    loop-less
+    loop-again
+    same-length-2
+    returns-2)
