@@ -29,7 +29,7 @@ fn raw(entry: Slot) -> i32
 
 // The table, and a pattern, in memory.
 pub fn times_in(times: [Slot; 49], n: usize) -> [i32; 49]
-    requires { ⌜ (n ≤ 7) × (length times ≡ 49) × Every (InLimit 1000000) (take (n * n) times) ⌝ }
+    requires { ⌜ (n ≤ 7) × Every (InLimit 1000000) (take (n * n) times) ⌝ }
     ensures { λ r. ⌜ (timesIn (take (n * n) r) ≡ map timeOf (take (n * n) times)) × (length r ≡ 49) ⌝ }
 {
     let mut memory = [0i32; 49];
@@ -42,7 +42,7 @@ pub fn times_in(times: [Slot; 49], n: usize) -> [i32; 49]
 }
 
 pub fn bounds_in(bounds: [Slot; 56], n: usize) -> [i32; 56]
-    requires { ⌜ (n ≤ 7) × (length bounds ≡ 56) × Every (InLimit 1000000) (take (patternSize n) bounds) ⌝ }
+    requires { ⌜ (n ≤ 7) × Every (InLimit 1000000) (take (patternSize n) bounds) ⌝ }
     ensures { λ r. ⌜ (boundsIn (take (patternSize n) r) ≡ map boundOf (take (patternSize n) bounds)) × (length r ≡ 56) ⌝ }
 {
     let mut memory = [0i32; 56];

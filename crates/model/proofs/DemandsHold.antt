@@ -50,7 +50,7 @@ module _ (c : Case) (capacity size : ℕ) where
   unfolding answer
   answer-refused f e = rw (e, answer)
 
-pub demand1 : (c : Case) (capacity : ℕ) (work : List ℤ) → Demand1 c capacity work
+pub demand1 : (c : Case) (capacity : ℕ) (work : List ℤ) → Demand1 c capacity work (answer c capacity (length work)) (workspaceAfter c capacity work)
 unfolding workspaceAfter
 demand1 c capacity work = record {
   ends = λ e. (rw (answer-in c capacity (length work) e) (ended (outcome (network c) capacity)), rw e);
@@ -151,7 +151,7 @@ module _ (c : Case) (capacity size : ℕ) (limits : InLimits c capacity size) wh
       go (clear-at s u) e = let z : _≡_ {A = ℕ} 0 1 = cc in omega arith
       go (never-at h) e = let z : _≡_ {A = ℕ} 0 1 = cc in omega arith
 
-  pub demand2 : Demand2 c capacity size
+  pub demand2 : Demand2 c (answer c capacity size)
   unfolding network
   demand2 = record {
     exactly = rw (answer-in c capacity size limits) (exactly (network c) capacity regular-case concludes);
@@ -162,23 +162,27 @@ module _ (c : Case) (capacity size : ℕ) (limits : InLimits c capacity size) wh
   never-is : (answer c capacity size .verdict ≡ verdict.Never) ↔ NeverHolds (network c) capacity
   never-is = rw (answer-in c capacity size limits) (never-exactly (network c) capacity regular-case concludes)
 
-  pub demand3 : Demand3 c capacity size
+  pub demand3 : Demand3 c capacity (answer c capacity size)
   demand3 = record {
     beyond = beyond (network c) regular-case;
     exactly = never-is;
     without-end = λ e. let h = never-is .0 e in beyond (network c) regular-case (h .again) (h .first) (h .proviso) (h .unmet);
   }
 
-pub demands : (c : Case) (capacity : ℕ) (work : List ℤ) → Demands c capacity work
+pub demands : (c : Case) (capacity : ℕ) (work : List ℤ) → Demands c capacity work (answer c capacity (length work)) (workspaceAfter c capacity work)
 demands c capacity work = record {
   one = demand1 c capacity work;
   two = demand2 c capacity (length work);
   three = demand3 c capacity (length work);
 }
 
-pub packed-demands : (s : List ℕ) (capacity : ℕ) (work : List ℤ) → PackedDemands s capacity work
+pub packed-demands : (s : List ℕ) (capacity : ℕ) (work : List ℤ)
+    → PackedDemands s capacity work (answerPacked s capacity (length work)) (workspaceAfterPacked s capacity work)
 unfolding answerPacked workspaceAfterPacked
 packed-demands s capacity work = record {
   refuses = λ f e. (rw (e, answerPacked), rw (e, workspaceAfterPacked));
-  reads = λ c q e. (rw (e, answerPacked), rw (e, workspaceAfterPacked), parsed-call s c q e capacity (length work), demands c capacity work);
+  reads = λ c q e.
+      let answered-so : answerPacked s capacity (length work) ≡ answer c capacity (length work) = rw (e, answerPacked) in
+      let left-so : workspaceAfterPacked s capacity work ≡ workspaceAfter c capacity work = rw (e, workspaceAfterPacked) in
+      (parsed-call s c q e capacity (length work), rw (answered-so, left-so) (demands c capacity work));
 }

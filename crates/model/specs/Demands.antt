@@ -13,12 +13,13 @@ use Rattle.model.specs.declared.Fault.{Fault}
 use Rattle.model.specs.declared.Fault.the-variants as fault
 use Rattle.model.specs.declared.Verdict.{Verdict}
 use Rattle.model.specs.declared.Verdict.the-variants as verdict
+use Rattle.model.specs.declared.Answer.{Answer}
 use Rattle.model.specs.Pattern.{InPattern, onlyDifferences}
 use Rattle.model.specs.Network.{Network, clocked, cycles, Repeat, repeatOf}
 use Rattle.model.specs.Search.{lists, someLarge, plan}
 use Rattle.model.specs.Faults.{network, callFault, roomFault}
 use Rattle.model.specs.Packed.{got, refused, parse}
-use Rattle.model.specs.Answers.{cycleNumber, refusal, answer, answerPacked, workspaceAfter, workspaceAfterPacked}
+use Rattle.model.specs.Answers.{cycleNumber, refusal}
 
 -- a case is within the limits if the call meets none of faults 1 to 10
 abbrev pub InLimits : Case → ℕ → ℕ → Type 0
@@ -35,11 +36,10 @@ pub data Ended : Verdict → Type 0 where
   table-full : (k : Cycle) → Ended (verdict.Refused (fault.TableFull k))
   bound-too-large : (k : Cycle) → Ended (verdict.Refused (fault.BoundTooLarge k))
 
-pub record Demand1 (c : Case) (capacity : ℕ) (work : List ℤ) : Type 0 where
-  pub ends : InLimits c capacity (length work)
-      → Ended (answer c capacity (length work) .verdict) × (workspaceAfter c capacity work ≡ replicate (length work) (pos 0))
-  pub refuses : (f : Fault) → callFault c capacity (length work) ≡ some f
-      → (answer c capacity (length work) ≡ refusal f) × (workspaceAfter c capacity work ≡ work)
+-- of the answer r to a call with this workspace, and the workspace afterwards
+pub record Demand1 (c : Case) (capacity : ℕ) (work : List ℤ) (r : Answer) (after : List ℤ) : Type 0 where
+  pub ends : InLimits c capacity (length work) → Ended (r .verdict) × (after ≡ replicate (length work) (pos 0))
+  pub refuses : (f : Fault) → callFault c capacity (length work) ≡ some f → (r ≡ refusal f) × (after ≡ work)
 
 -- xs is a start in the start pattern whose k-step image is in the target
 pub record Witness (w : Network) (k : ℕ) (xs : List ℤ) : Type 0 where
@@ -62,14 +62,11 @@ pub record First (w : Network) (k : ℕ) : Type 0 where
   pub not-before : NotBefore w k
   pub met : Met w k
 
--- for a case within the limits
-pub record Demand2 (c : Case) (capacity size : ℕ) : Type 0 where
-  pub exactly : Decided (answer c capacity size .verdict) → (k : ℕ)
-      → (answer c capacity size .verdict ≡ verdict.Reached (cycleNumber k)) ↔ First (network c) k
-  pub start : (k : ℕ) → answer c capacity size .verdict ≡ verdict.Reached (cycleNumber k)
-      → Witness (network c) k (map (λ x. x .0) (take (c .n) (answer c capacity size .start)))
-  pub otherwise : Decided (answer c capacity size .verdict) → NotBefore (network c) (suc (c .horizon .0))
-      → (answer c capacity size .verdict ≡ verdict.Clear (c .horizon)) ⊎ (answer c capacity size .verdict ≡ verdict.Never)
+-- of the answer r, for a case within the limits
+pub record Demand2 (c : Case) (r : Answer) : Type 0 where
+  pub exactly : Decided (r .verdict) → (k : ℕ) → (r .verdict ≡ verdict.Reached (cycleNumber k)) ↔ First (network c) k
+  pub start : (k : ℕ) → r .verdict ≡ verdict.Reached (cycleNumber k) → Witness (network c) k (map (λ x. x .0) (take (c .n) (r .start)))
+  pub otherwise : Decided (r .verdict) → NotBefore (network c) (suc (c .horizon .0)) → (r .verdict ≡ verdict.Clear (c .horizon)) ⊎ (r .verdict ≡ verdict.Never)
 
 -- the search ends early
 pub record EndsEarly (w : Network) (capacity : ℕ) : Type 0 where
@@ -92,24 +89,20 @@ pub record NeverHolds (w : Network) (capacity : ℕ) : Type 0 where
   pub unmet : NotBefore w (again .q)
   pub not-early : EndsEarly w capacity → ⊥
 
--- for a case within the limits
-pub record Demand3 (c : Case) (capacity size : ℕ) : Type 0 where
-  pub beyond : (r : Repeat) → repeatOf (network c) ≡ some r → Differences (network c) → NotBefore (network c) (r .q)
+-- of the answer r, for a case within the limits
+pub record Demand3 (c : Case) (capacity : ℕ) (r : Answer) : Type 0 where
+  pub beyond : (again : Repeat) → repeatOf (network c) ≡ some again → Differences (network c) → NotBefore (network c) (again .q)
       → (k : ℕ) → 1 ≤ k → Met (network c) k → ⊥
-  pub exactly : (answer c capacity size .verdict ≡ verdict.Never) ↔ NeverHolds (network c) capacity
-  pub without-end : answer c capacity size .verdict ≡ verdict.Never → (k : ℕ) → 1 ≤ k → Met (network c) k → ⊥
+  pub exactly : (r .verdict ≡ verdict.Never) ↔ NeverHolds (network c) capacity
+  pub without-end : r .verdict ≡ verdict.Never → (k : ℕ) → 1 ≤ k → Met (network c) k → ⊥
 
-pub record Demands (c : Case) (capacity : ℕ) (work : List ℤ) : Type 0 where
-  pub one : Demand1 c capacity work
-  pub two : InLimits c capacity (length work) → Demand2 c capacity (length work)
-  pub three : InLimits c capacity (length work) → Demand3 c capacity (length work)
+pub record Demands (c : Case) (capacity : ℕ) (work : List ℤ) (r : Answer) (after : List ℤ) : Type 0 where
+  pub one : Demand1 c capacity work r after
+  pub two : InLimits c capacity (length work) → Demand2 c r
+  pub three : InLimits c capacity (length work) → Demand3 c capacity r
 
 -- a packed case: refused with its first fault, or answered as the case that it holds, which has none of the faults 2 to 6
-pub record PackedDemands (s : List ℕ) (capacity : ℕ) (work : List ℤ) : Type 0 where
-  pub refuses : (f : Fault) → parse s ≡ refused f
-      → (answerPacked s capacity (length work) ≡ refusal f) × (workspaceAfterPacked s capacity work ≡ work)
+pub record PackedDemands (s : List ℕ) (capacity : ℕ) (work : List ℤ) (r : Answer) (after : List ℤ) : Type 0 where
+  pub refuses : (f : Fault) → parse s ≡ refused f → (r ≡ refusal f) × (after ≡ work)
   pub reads : (c : Case) (q : ℕ) → parse s ≡ got c q
-      → (answerPacked s capacity (length work) ≡ answer c capacity (length work))
-      × (workspaceAfterPacked s capacity work ≡ workspaceAfter c capacity work)
-      × (callFault c capacity (length work) ≡ roomFault (c .n) capacity (length work))
-      × Demands c capacity work
+      → (callFault c capacity (length work) ≡ roomFault (c .n) capacity (length work)) × Demands c capacity work r after

@@ -2,14 +2,10 @@
 use Prim.Native.Nat.{ℕ, _+_, _*_}
 use lib.IntN.{ℤ, pos, negsuc}
 use mathlib.Core.Path.{_≡_, refl}
-use mathlib.Core.List.{List, [], _∷_, map}
-use mathlib.Core.Option.{Option, some}
-use Rattle.ints.specs.declared.Seconds.{Seconds}
+use mathlib.Core.List.{List, [], _∷_}
+use mathlib.Core.Option.{some}
 use Rattle.model.specs.declared.Slot.{Slot}
 use Rattle.model.specs.declared.Case.{Case}
-use Rattle.model.specs.declared.Fault.the-variants as fault
-use Rattle.model.specs.declared.Answer.{Answer}
-use Rattle.model.specs.declared.Run.{Run}
 use Rattle.model.specs.declared.Judged.the-variants as judged
 use Rattle.model.specs.Lists as L
 use Rattle.model.specs.Bound as B
@@ -22,7 +18,7 @@ use Rattle.model.specs.Search.{reached, clear, never, tableFull}
 use Rattle.model.specs.Faults as F
 use Rattle.model.specs.Faults.{nothing, present, network}
 use Rattle.model.specs.Packed.{caseOf}
-use Rattle.model.specs.Answers.{seconds, sevenTimes, answered, answer, run}
+use Rattle.model.specs.Answers.{sevenTimes, answered, answer, run}
 
 -- a claim: on the powers of a case, on its verdict with Z zones and a workspace that is just long enough, on a run's cycle k
 pub data Example : Type 0 where

@@ -2,10 +2,10 @@
 use Prim.Native.Nat.{ℕ, zero, suc, _+_, _*_}
 use lib.IntN.{ℤ, pos, natAbs}
 use mathlib.Core.List.{List, [], _∷_, map}
-use mathlib.Core.Option.{Option, none, some}
+use mathlib.Core.Option.{Option, none}
 use mathlib.Core.Bool.{Bool, true, false, not, _&&_, _||_, cond}
-use lib.ListN.{length, take, drop}
-use lib.Dec.{eqb, ltb}
+use lib.ListN.{take, drop}
+use lib.Dec.{ltb}
 use Rattle.ints.specs.declared.Seconds.{Seconds}
 use Rattle.model.specs.declared.Slot.{Slot}
 use Rattle.model.specs.declared.Case.{Case}

@@ -1,6 +1,6 @@
 -- Document 01's patterns: a bound or none for each ordered pair i, j from 0 to n, i not j, by i, then j. x(0) is the clock's zero.
 use Prim.Native.Nat.{ℕ, suc, _+_, _*_, _-_, _<_}
-use lib.IntN.{ℤ, pos, _-ℤ_}
+use lib.IntN.{ℤ, _-ℤ_}
 use mathlib.Core.List.{List, flatten}
 use mathlib.Core.Bool.{Bool, true, false, _&&_, cond}
 use lib.ListN.{getD}

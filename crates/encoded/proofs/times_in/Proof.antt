@@ -34,7 +34,7 @@ array-copy-out-entry : tie.Need-array-copy-out-entry Inv-loop μ-loop
 array-copy-out-entry c = index c
 
 raw-requires : tie.Need-raw-requires Inv-loop μ-loop
-raw-requires c κs = let s = c .before .before .before in limit-at (s .args .n * s .args .n) (s .args .t1) _ (omega arith) (s .pre .2)
+raw-requires c κs = let s = c .before .before .before in limit-at (s .args .n * s .args .n) (s .args .t1) _ (omega arith) (s .pre .1)
 
 mul-memory : tie.Need-mul-memory Inv-loop μ-loop
 mul-memory c = omega (arith, index (c .before .before))

@@ -1,0 +1,4 @@
+mod Plans
+mod Within
+mod Answered
+pub mod Demanded

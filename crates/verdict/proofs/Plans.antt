@@ -1,0 +1,49 @@
+-- The searched horizon, case by case; and that a search does not look at the horizon itself.
+use Prim.Native.Nat.{ℕ, zero, suc, _-_, _≤_, _<_, min}
+use native.Mathlib.Omega.{arith}
+use mathlib.Core.Path.{_≡_, refl, sym, ap}
+use mathlib.Core.Bool.{Bool, true, false}
+use mathlib.Core.List.{List}
+use mathlib.Core.Option.{Option, none, some}
+use borrow.Author.Tests.{le-leb, lt-leb}
+use Rattle.ints.specs.declared.Cycle.{Cycle}
+use Rattle.model.specs.declared.Verdict.the-variants as verdict
+use Rattle.model.specs.Matrix.{Matrix}
+use Rattle.model.specs.Network.{Network, Repeat}
+use Rattle.model.specs.Search.{Outcome, planWith, settled, previous, searchFrom}
+use Rattle.verdict.specs.Planning.{Planned}
+
+module _ (horizon : Cycle) where
+  pub never-plan : (r : Repeat) {o : Option Repeat} {t : Bool} → o ≡ some r → t ≡ true → r .q - 1 ≤ horizon .0
+      → Planned (planWith (horizon .0) o t) (record { cycles = r .q - 1; end = verdict.Never })
+  unfolding planWith
+  never-plan r e f h =
+      let m : min (horizon .0) (r .q - 1) ≡ r .q - 1 = omega arith in
+      rw (e, f) (record { cycles = sym m; end = rw (le-leb (r .q - 1) (horizon .0) h) })
+
+  pub beyond-plan : (r : Repeat) {o : Option Repeat} {t : Bool} → o ≡ some r → t ≡ true → horizon .0 < r .q - 1
+      → Planned (planWith (horizon .0) o t) (record { cycles = horizon .0; end = verdict.Clear horizon })
+  unfolding planWith
+  beyond-plan r e f h =
+      let m : min (horizon .0) (r .q - 1) ≡ horizon .0 = omega arith in
+      rw (e, f) (record { cycles = sym m; end = rw (lt-leb (r .q - 1) (horizon .0) h) })
+
+  pub no-plan : {o : Option Repeat} (t : Bool) → o ≡ none → Planned (planWith (horizon .0) o t) (record { cycles = horizon .0; end = verdict.Clear horizon })
+  unfolding planWith
+  no-plan t e = rw e (record { cycles = refl; end = refl })
+
+  pub clock-plan : (o : Option Repeat) {t : Bool} → t ≡ false → Planned (planWith (horizon .0) o t) (record { cycles = horizon .0; end = verdict.Clear horizon })
+  unfolding planWith
+  clock-plan none e = record { cycles = refl; end = refl }
+  clock-plan (some r) e = rw e (record { cycles = refl; end = refl })
+
+-- the same network with another horizon
+abbrev pub within : Network → ℕ → Network
+within w h = record { n = w .n; horizon = h; times = w .times; start = w .start; target = w .target }
+
+pub same-search : (w : Network) (h capacity r k : ℕ) (zs : List Matrix) (end : Outcome) → searchFrom (within w h) capacity r k zs end ≡ searchFrom w capacity r k zs end
+unfolding searchFrom settled
+same-search w h capacity zero k zs end = refl
+same-search w h capacity (suc r) k zs end =
+    let zs′ = previous (w .n) (w .times) zs in
+    ap (λ (o : Outcome). elim (settled w capacity k zs′) [ some x ↦ x | none ↦ o ]) (same-search w h capacity r (suc k) zs′ end)

@@ -1,0 +1,116 @@
+// Verdicts: a case is judged, then searched, and the workspace is left all zero.
+ghost use mathlib.Core.Path.{_≡_};
+ghost use mathlib.Core.Bool.{_||_};
+ghost use Prim.Native.Nat.{suc, _+_, _*_, _≤_, _<_};
+ghost use lib.ListN.{length, replicate};
+ghost use lib.IntN.{pos};
+ghost use Rattle.model.specs.Pattern.{onlyDifferences};
+ghost use Rattle.model.specs.Search.{planWith, outcome};
+ghost use Rattle.model.specs.Faults.{network, patternSize};
+ghost use Rattle.model.specs.Answers.{answered, answer, workspaceAfter, answerPacked, workspaceAfterPacked};
+ghost use Rattle.model.specs.Demands.{InLimits};
+ghost use Rattle.zones.specs.Memory.{boundsIn};
+ghost use Rattle.powers.specs.Readings.{repeatRead};
+ghost use Rattle.verdict.specs.Planning.{Planned, Counted};
+use ints::Cycle;
+use model::Answer;
+use model::Case;
+use model::Judged;
+use model::Verdict;
+use powers::Repeated;
+
+// How many cycles are searched, and the verdict of getting past them.
+struct Plan {
+    cycles: usize,
+    end: Verdict,
+}
+
+fn plan_of(repeated: Repeated, differences: bool, horizon: Cycle) -> Plan
+    requires { ⌜ Counted repeated × (horizon .0 ≤ 64) ⌝ }
+    ensures { λ r. ⌜ Planned (planWith (horizon .0) (repeatRead repeated) differences) r ⌝ }
+{
+    if differences {
+        if let Repeated::At(again) = repeated {
+            let cycles = again.q - 1;
+            if cycles <= horizon.0 {
+                return Plan {
+                    cycles,
+                    end: Verdict::Never,
+                };
+            }
+        }
+    }
+    Plan {
+        cycles: horizon.0,
+        end: Verdict::Clear(horizon),
+    }
+}
+
+// Start or target bounds only differences.
+fn differences(start: &[i32], target: &[i32], n: usize) -> bool
+    requires { ⌜ (n ≤ 7) × (length (now start) ≡ patternSize n) × (length (now target) ≡ patternSize n) ⌝ }
+    ensures { λ r. ⌜ r ≡ (onlyDifferences n (boundsIn (now (start .entry))) || onlyDifferences n (boundsIn (now (target .entry)))) ⌝ }
+{
+    if encoded::only_differences(start, n) {
+        return true;
+    }
+    encoded::only_differences(target, n)
+}
+
+// The answer for a case within the limits.
+fn searched(case: Case, capacity: usize, work: &mut [i32]) -> Answer
+    requires { ⌜ InLimits case capacity (length (now work)) ⌝ }
+    ensures { λ r. ⌜ (r ≡ answered (outcome (network case) capacity)) × (now (work .exit) ≡ replicate (length (now (work .entry))) (pos 0)) ⌝ }
+{
+    let n = case.n;
+    let table = case.times;
+    let times = encoded::times_in(table, n);
+    let from = case.start;
+    let start = encoded::bounds_in(from, n);
+    let to = case.target;
+    let target = encoded::bounds_in(to, n);
+    let count = n * n;
+    let size = n * (n + 1);
+    let free = differences(&start[..size], &target[..size], n);
+    let repeated = powers::first_repeat(table, n);
+    let plan = plan_of(repeated, free, case.horizon);
+    let end = plan.end;
+    let answer = search::search(
+        work,
+        capacity,
+        &times[..count],
+        &start[..size],
+        &target[..size],
+        n,
+        plan.cycles,
+        end,
+    );
+    encoded::clear(work);
+    answer
+}
+
+// The verdict on an unpacked case, with Z and the workspace.
+pub fn verdict(case: Case, capacity: usize, work: &mut [i32]) -> Answer
+    ensures { λ r. ⌜ (r ≡ answer case capacity (length (now (work .entry)))) × (now (work .exit) ≡ workspaceAfter case capacity (now (work .entry))) ⌝ }
+{
+    let size = work.len();
+    match judge::call_fault(case, capacity, size) {
+        Judged::Refused(fault) => search::plain(Verdict::Refused(fault)),
+        Judged::Accepted => searched(case, capacity, work),
+    }
+}
+
+// The verdict on a packed case.
+pub fn verdict_packed(bytes: &[u8], capacity: usize, work: &mut [i32]) -> Answer
+    ensures { λ r. ⌜ (r ≡ answerPacked (now (bytes .entry)) capacity (length (now (work .entry)))) × (now (work .exit) ≡ workspaceAfterPacked (now (bytes .entry)) capacity (now (work .entry))) ⌝ }
+{
+    let read = packed::read(bytes);
+    let judged = read.judged;
+    match judged {
+        Judged::Refused(fault) => search::plain(Verdict::Refused(fault)),
+        Judged::Accepted => {
+            let case = read.case;
+            verdict(case, capacity, work)
+        }
+    }
+}
