@@ -1,11 +1,11 @@
 -- The bounds of a pattern in memory that name the clock, departure by departure.
-use Prim.Native.Nat.{ℕ, zero, suc, _+_, _*_, _-_, _≤_, _<_}
+use Prim.Native.Nat.{ℕ, suc, _+_, _*_, _-_, _≤_, _<_}
 use native.Mathlib.Omega.{arith}
 use native.Mathlib.Nat.{mul-le-mul-right}
 use native.Mathlib.Numerals.{add-one}
 use mathlib.Core.Path.{_≡_, refl, sym, ap, _∙_}
 use mathlib.Core.Bool.{Bool, true, false, _&&_, cond}
-use mathlib.Core.List.{List, [], _∷_}
+use mathlib.Core.List.{List}
 use lib.IntN.{ℤ, pos}
 use lib.ListN.{length, getD}
 use lib.Dec.{eqb·zero-suc, eqb·suc-zero}
@@ -19,6 +19,7 @@ use Rattle.model.specs.Bound.{most, sameZ}
 use Rattle.model.specs.Pattern.{pairPlace, pairBound, isNone, onlyDifferences}
 use Rattle.model.specs.Faults.{patternSize}
 use Rattle.model.proofs.Same.{sameZ-true}
+use Rattle.zones.proofs.Places.{getD-bounds}
 use Rattle.zones.specs.Memory.{boundIn, boundsIn}
 use Rattle.encoded.proofs.Memory.{bound-none}
 
@@ -42,12 +43,6 @@ to-inside {n} {j} h = let l : j + 1 ≤ n = omega arith in omega (arith, mul-le-
 
 pub from-inside : {n j : ℕ} → j < n → j < patternSize n
 from-inside {n} {j} h = let l : 1 ≤ j + 1 = omega arith in omega (arith, to-inside h, mul-le-mul-right n l)
-
-getD-bounds : (p : List ℤ) (k : ℕ) → k < length p → getD (boundsIn p) k B.Bound.none ≡ boundIn (getD p k (pos 0))
-unfolding boundsIn
-getD-bounds [] k h = absurd (omega arith)
-getD-bounds (z ∷ p) zero h = refl
-getD-bounds (z ∷ p) (suc k) h = getD-bounds p k (omega arith)
 
 module _ (n : ℕ) (p : List ℤ) where
   -- the numbers of the departure that the loop calls j, j + 1 in the pattern

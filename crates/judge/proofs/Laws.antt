@@ -6,9 +6,10 @@ use native.Mathlib.Numerals.{add-one}
 use native.Mathlib.Omega.{arith}
 use mathlib.Core.List.{List, [], _∷_, map}
 use mathlib.Core.Option.{Option, none, some}
-use mathlib.Core.Bool.{Bool, true, false, not, _||_, or-false, or-assoc, cond}
+use mathlib.Core.Bool.{Bool, true, false, not, _||_, or-false, or-assoc}
 use lib.ListN.{length, take, drop, getD, length-take, length-drop, drop-of-length-le}
 use lib.Seq.{drop-cons, drop-drop, getD-take, getD-drop}
+use Rattle.model.proofs.Stored.{has-time}
 use Rattle.model.specs.declared.Slot.{Slot}
 use Rattle.model.specs.declared.Case.{Case}
 use Rattle.model.specs.declared.Fault.{Fault}
@@ -16,7 +17,7 @@ use Rattle.model.specs.declared.Fault.the-variants as fault
 use Rattle.model.specs.declared.Judged.{Judged}
 use Rattle.model.specs.declared.Judged.the-variants as judged
 use Rattle.model.specs.Lists.{anyOf, when, orElse}
-use Rattle.model.specs.Network.{blank, secs, isTime, regular}
+use Rattle.model.specs.Network.{regular}
 use Rattle.model.specs.Faults.{timeOf, beyond, entryFault, rowsFault, outside, tableFault}
 use Rattle.model.proofs.Limits.{no-fault}
 use Rattle.judge.specs.Judgement.{judgedBy}
@@ -33,10 +34,6 @@ passed-none l = record { long = l; within = omega arith; rest = rw add-zero refl
 -- the entries hold a time exactly if t, which says it of those passed, or the others do
 abbrev pub SomeTime : List Slot → ℕ → Bool → Type 0
 SomeTime es i t = regular (map timeOf es) ≡ (t || regular (map timeOf (drop i es)))
-
-has-time : (e : Slot) → isTime (timeOf e) ≡ e .has
-unfolding isTime timeOf
-has-time e = elim (e .has) as (λ b. isTime (cond b (secs (e .value .0)) blank) ≡ b) [ true ↦ refl | false ↦ refl ]
 
 module _ {limit : ℕ} {f : ℕ → Fault} {p : ℕ} {es : List Slot} {n i : ℕ} (r : Passed limit f p es n i) where
   -- a turn: e is the next entry

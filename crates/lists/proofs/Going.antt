@@ -2,7 +2,7 @@
 use Prim.Native.Nat.{ℕ, suc, _+_, _*_, _-_, _≤_, _<_}
 use native.Mathlib.Omega.{arith}
 use mathlib.Core.Path.{_≡_, refl, sym, ap, _∙_}
-use mathlib.Core.Bool.{Bool, true, false}
+use mathlib.Core.Bool.{true, false}
 use mathlib.Core.List.{List, foldl}
 use mathlib.Core.Option.{Option, none, some}
 use lib.IntN.{ℤ}
@@ -10,7 +10,6 @@ use lib.ListN.{length, take, drop, set}
 use Rattle.model.specs.Matrix.{Matrix}
 use Rattle.model.specs.Search.{keep}
 use Rattle.zones.specs.Memory.{boundsIn, timesIn}
-use Rattle.zones.specs.Conditions.{Left, gone, kept}
 use Rattle.lists.specs.declared.Built.{Built}
 use Rattle.lists.specs.Lists.{listIn, Holds, Room, extensions, withColumn, partIn}
 use Rattle.lists.proofs.Keeping.{length-listIn, in-place}
@@ -18,14 +17,6 @@ use Rattle.lists.proofs.Extensions.{kept-grows, extensions-end}
 use Rattle.lists.proofs.Selecting.{held-full, held-open, held-list, from, from-first, from-next, from-end, here-none, here-some}
 
 -- what a set becomes with a column, by the answer
-pub left-none : {o : Option Matrix} {b : Bool} {z : List ℤ} → Left o b z → b ≡ false → o ≡ none
-left-none gone e = refl
-left-none (kept h) e = let z : _≡_ {A = ℕ} 0 1 = cc in absurd (omega arith)
-
-pub left-some : {o : Option Matrix} {b : Bool} {z : List ℤ} → Left o b z → b ≡ true → o ≡ some (boundsIn z)
-left-some gone e = let z : _≡_ {A = ℕ} 0 1 = cc in absurd (omega arith)
-left-some (kept h) e = ap some (sym h)
-
 abbrev pub size : ℕ → ℕ
 size n = (n + 1) * (n + 1)
 

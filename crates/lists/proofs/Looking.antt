@@ -18,7 +18,8 @@ use Rattle.zones.specs.Memory.{boundsIn}
 use Rattle.zones.specs.Conditions.{Left, CommonReady, PickReady}
 use Rattle.zones.proofs.Constraints.{pattern-left}
 use Rattle.lists.specs.Lists.{zoneAt, listIn, partIn, Meeting}
-use Rattle.lists.proofs.Going.{size, left-none, left-some}
+use Rattle.zones.proofs.ReadyZones.{left-none, left-some}
+use Rattle.lists.proofs.Going.{size}
 
 module _ (n base count : ℕ) (work pattern : List ℤ) where
   -- the zones of the list

@@ -1,5 +1,5 @@
 -- Lists of zones in memory: the tests of equality, place by place, and one zone more.
-use Prim.Native.Nat.{ℕ, zero, suc, _+_, _*_, _-_, _≤_, _<_}
+use Prim.Native.Nat.{ℕ, suc, _+_, _*_, _-_, _≤_, _<_}
 use native.Mathlib.Omega.{arith}
 use native.Mathlib.Nat.{mul-le-mul-right, suc-mul}
 use native.Mathlib.Numerals.{add-one}
@@ -7,7 +7,7 @@ use mathlib.Core.Path.{_≡_, refl, sym, ap, ap₂, _∙_}
 use mathlib.Core.Bool.{Bool, true, false, _&&_, _||_, cond}
 use mathlib.Core.List.{List, [], _∷_, _++_, append-assoc}
 use lib.IntN.{ℤ, pos}
-use lib.ListN.{length, take, drop, getD, length-map, length-take, length-drop, drop-of-length-le, List·getD-append}
+use lib.ListN.{length, take, drop, getD, length-take, length-drop, drop-of-length-le, List·getD-append}
 use lib.Seq.{drop-cons, getD-take, getD-drop, drop-append-add, drop-drop, take-all, take-at, drop-at, length-take-le, ext-getD, paste, length-paste, length-paste-head}
 use lib.Dec.{eqb}
 use borrow.Author.Tests.{eqb-true, eq-eqb}
@@ -20,6 +20,7 @@ use Rattle.model.specs.Bound.{Bound, most, sameZ, sameBound}
 use Rattle.model.specs.Matrix.{Matrix}
 use Rattle.model.proofs.Tabulated.{tabulate-ext, tabulate-snoc}
 use Rattle.model.proofs.Same.{sameZ-true, sameZ-refl, sameBound-true, sameBound-refl}
+use Rattle.zones.proofs.Places.{getD-bounds, bounds-size}
 use Rattle.zones.specs.Memory.{boundIn, boundsIn}
 use Rattle.lists.specs.Lists.{zoneAt, listIn}
 
@@ -59,20 +60,10 @@ module _ {X : Type 0} (z : X) (t : X → X → Bool) (xs ys : List X) (long : le
   unfolding sameLists
   same-next p h = rw (add-one p, drop-cons xs p z h, drop-cons ys p z (omega arith))
 
-pub getD-bounds : (xs : List ℤ) (p : ℕ) → p < length xs → getD (boundsIn xs) p B.Bound.none ≡ boundIn (getD xs p (pos 0))
-unfolding boundsIn
-getD-bounds [] p h = absurd (omega arith)
-getD-bounds (x ∷ xs) zero h = refl
-getD-bounds (x ∷ xs) (suc p) h = getD-bounds xs p (omega arith)
-
-pub length-bounds : (xs : List ℤ) → length (boundsIn xs) ≡ length xs
-unfolding boundsIn
-length-bounds xs = length-map xs boundIn
-
 module _ (size : ℕ) (work : List ℤ) (k : ℕ) (inside : k * size + size ≤ length work) where
   pub length-zoneAt : length (zoneAt size work k) ≡ size
   unfolding zoneAt
-  length-zoneAt = rw (length-bounds (take size (drop (k * size) work)), length-take size (drop (k * size) work), length-drop (k * size) work) (omega arith)
+  length-zoneAt = rw (bounds-size (take size (drop (k * size) work)), length-take size (drop (k * size) work), length-drop (k * size) work) (omega arith)
 
   pub getD-zoneAt : (p : ℕ) → p < size → getD (zoneAt size work k) p B.Bound.none ≡ boundIn (getD work (k * size + p) (pos 0))
   unfolding zoneAt
@@ -85,14 +76,14 @@ pub zone-next : (size : ℕ) (work zone : List ℤ) (k : ℕ) → length zone �
     → sameLists sameBound (drop p (boundsIn zone)) (drop p (zoneAt size work k))
     ≡ (sameZ (getD zone p (pos 0)) (getD work (k * size + p) (pos 0)) && sameLists sameBound (drop (p + 1) (boundsIn zone)) (drop (p + 1) (zoneAt size work k)))
 zone-next size work zone k fits inside p h =
-    same-next B.Bound.none sameBound (boundsIn zone) (zoneAt size work k) (length-bounds zone ∙ fits ∙ sym (length-zoneAt size work k inside)) p (rw (length-bounds zone, fits) h)
+    same-next B.Bound.none sameBound (boundsIn zone) (zoneAt size work k) (bounds-size zone ∙ fits ∙ sym (length-zoneAt size work k inside)) p (rw (bounds-size zone, fits) h)
     ∙ rw (getD-bounds zone p (omega arith), getD-zoneAt size work k inside p h, same-bound (getD zone p (pos 0)) (getD work (k * size + p) (pos 0)))
 
 pub zone-end : (size : ℕ) (work zone : List ℤ) (k : ℕ) → length zone ≡ size → k * size + size ≤ length work → (p : ℕ) → size ≤ p
     → sameLists sameBound (drop p (boundsIn zone)) (drop p (zoneAt size work k)) ≡ true
 unfolding sameLists
 zone-end size work zone k fits inside p h =
-    rw (drop-of-length-le (boundsIn zone) {i = p} (rw (length-bounds zone) (omega arith)), drop-of-length-le (zoneAt size work k) {i = p} (rw (length-zoneAt size work k inside) h))
+    rw (drop-of-length-le (boundsIn zone) {i = p} (rw (bounds-size zone) (omega arith)), drop-of-length-le (zoneAt size work k) {i = p} (rw (length-zoneAt size work k inside) h))
 
 pub any-next : {X : Type 0} (t : X → Bool) (f : ℕ → X) (n k : ℕ) → k < n → anyOf t (tabulate (n - k) k f) ≡ (t (f k) || anyOf t (tabulate (n - (k + 1)) (k + 1) f))
 unfolding anyOf tabulate

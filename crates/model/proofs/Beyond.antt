@@ -3,25 +3,25 @@
 use Prim.Native.Nat.{ℕ, zero, suc, _+_, _-_, _≤_, _<_}
 use native.Mathlib.Omega.{arith}
 use native.Mathlib.Decide.{decLt}
-use mathlib.Core.Path.{_≡_, refl, sym, ap, _∙_}
+use mathlib.Core.Path.{_≡_, refl, sym, _∙_}
 use mathlib.Core.Logic.{_⊎_, inl, inr, ⊎-elim}
 use mathlib.Core.Bool.{Bool, true, false, _&&_, _||_}
 use mathlib.Core.List.{List, [], _∷_}
 use mathlib.Core.Option.{some}
-use lib.IntN.{ℤ, pos, _+ℤ_, _-ℤ_}
+use lib.IntN.{ℤ, _+ℤ_, _-ℤ_}
 use lib.ListN.{length, length-map}
 use Rattle.ints.proofs.Integers.{ints, add-ud, sub-ud}
 use Rattle.model.specs.Lists.{tabulate, allOf}
 use Rattle.model.specs.Bound as B
 use Rattle.model.specs.Bound.{Bound, most, any, Holds}
 use Rattle.model.specs.Pattern.{pairBound, isNone, onlyDifferences, InPattern}
-use Rattle.model.specs.Network.{Time, secs, after, added, Network, clocked, cycles, Repeat, repeatOf}
-use Rattle.model.specs.Demands.{Witness, Met, NotBefore, Differences}
+use Rattle.model.specs.Network.{after, added, Network, clocked, cycles, Repeat, repeatOf}
+use Rattle.model.specs.Demands.{Met, NotBefore, Differences}
 use Rattle.model.proofs.Same.{and-true}
 use Rattle.model.proofs.Listed.{Every, done, both, at-tabulate}
 use Rattle.model.proofs.Cycles.{Regular, shift, clocked-shift, length-cycles, cycles-shift}
 use Rattle.model.proofs.Powers.{power, repeats-from}
-use Rattle.model.proofs.Repeats.{Repeats, repeat-sound}
+use Rattle.model.proofs.Repeats.{repeat-sound}
 
 -- ---- a pattern that bounds only differences
 allOf-true : {X : Type 0} (p : X → Bool) (xs : List X) → allOf p xs ≡ true → Every (λ x. p x ≡ true) xs

@@ -6,7 +6,7 @@ use mathlib.Core.Bool.{Bool, true, false, cond}
 use lib.IntN.{ℤ, pos, negℤ, _+ℤ_, _-ℤ_}
 use lib.Signed.{leZ, ltZ}
 use Rattle.model.specs.Bound as B
-use Rattle.model.specs.Bound.{Bound, most, LeB, any, fin, Holds, plus, tighter, negative, sameZ, sameBound}
+use Rattle.model.specs.Bound.{Bound, most, LeB, any, fin, Holds, plus, tighter, negative}
 use Rattle.ints.proofs.Integers.{up, dn, ints, le-nat, nat-le, add-ud, sub-ud, neg-ud}
 
 -- omega's way in and out of the order at two numbers

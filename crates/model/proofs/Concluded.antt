@@ -1,20 +1,18 @@
 -- What each outcome of a search means: the demands for a network.
-use Prim.Native.Nat.{ℕ, zero, suc, _-_, _≤_, _<_}
+use Prim.Native.Nat.{ℕ, suc, _≤_, _<_}
 use native.Mathlib.Omega.{arith}
-use mathlib.Core.Path.{_≡_, refl, sym, ap, _∙_}
-use mathlib.Core.Logic.{_⊎_, inl, inr, ⊎-elim}
+use mathlib.Core.Path.{_≡_, refl, ap}
+use mathlib.Core.Logic.{inl, inr, ⊎-elim}
 use mathlib.Core.Bool.{true, false}
 use mathlib.Core.List.{List}
 use mathlib.Core.Option.{Option, none, some}
 use lib.IntN.{ℤ}
 use lib.ListN.{length}
-use Rattle.model.specs.Matrix.{Matrix}
-use Rattle.model.specs.Network.{Network, Repeat}
+use Rattle.model.specs.Network.{Network}
 use Rattle.model.specs.Search.{lists, someLarge, Outcome, reached, clear, never, tableFull, boundTooLarge, pick, Plan, plan, outcome}
 use Rattle.model.specs.Demands.{Witness, Met, NotBefore, First, EndsEarly, NeverHolds}
 use Rattle.model.proofs.Cycles.{Regular}
 use Rattle.model.proofs.Searched.{met-by, unmet, Settled, full, large, met, unsettled, settled-is, settledAt, Ending, stopped, passed, outcome-ends, Short, Planned, whole, short, plan-is}
-use Rattle.model.proofs.Beyond.{beyond}
 
 pub data Concluded (w : Network) (capacity : ℕ) : Outcome → Type 0 where
   reached-at : {xs : List ℤ} {k : ℕ} → First w k → Witness w k xs → Concluded w capacity (reached k xs)

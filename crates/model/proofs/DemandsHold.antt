@@ -1,32 +1,29 @@
 -- The three demands hold, of every call.
-use Prim.Native.Nat.{ℕ, zero, suc, _-_, _≤_, _<_}
+use Prim.Native.Nat.{ℕ, suc, _<_}
 use native.Mathlib.Omega.{arith}
 use native.Mathlib.Decide.{decLt}
-use mathlib.Core.Path.{_≡_, refl, sym, ap, _∙_}
-use mathlib.Core.Logic.{_↔_, _⊎_, inl, inr, ⊎-elim}
+use mathlib.Core.Path.{_≡_, refl, ap, _∙_}
+use mathlib.Core.Logic.{_↔_, _⊎_, inl, inr}
 use mathlib.Core.List.{List, [], _∷_, map}
-use mathlib.Core.Option.{Option, none, some}
-use lib.IntN.{ℤ, pos}
-use lib.ListN.{length, take, replicate, length-map}
+use mathlib.Core.Option.{none, some}
+use lib.IntN.{ℤ}
+use lib.ListN.{length, take, length-map}
 use lib.Seq.{take-at}
-use Rattle.ints.specs.declared.Seconds.{Seconds}
 use Rattle.model.specs.declared.Case.{Case}
 use Rattle.model.specs.declared.Fault.{Fault}
-use Rattle.model.specs.declared.Fault.the-variants as fault
 use Rattle.model.specs.declared.Verdict.{Verdict}
 use Rattle.model.specs.declared.Verdict.the-variants as verdict
-use Rattle.model.specs.Network.{Network, Repeat, repeatOf}
+use Rattle.model.specs.Network.{Network}
 use Rattle.model.specs.Search.{Outcome, reached, clear, never, tableFull, boundTooLarge, outcome}
 use Rattle.model.specs.Faults.{network, callFault}
-use Rattle.model.specs.Answers.{seconds, sevenTimes, cycleNumber, value, refusal, answered, answer, workspaceAfter, answerPacked, workspaceAfterPacked}
+use Rattle.model.specs.Answers.{seconds, cycleNumber, value, refusal, answered, answer, workspaceAfter, answerPacked, workspaceAfterPacked}
 use Rattle.model.specs.Demands as D
-use Rattle.model.specs.Demands.{InLimits, Decided, Ended, decided, table-full, bound-too-large, Demand1, Witness, Met, NotBefore, First, Demand2, NeverHolds, Demand3, Demands, PackedDemands}
+use Rattle.model.specs.Demands.{InLimits, Decided, Ended, decided, table-full, bound-too-large, Demand1, Witness, NotBefore, First, Demand2, NeverHolds, Demand3, Demands, PackedDemands}
 use Rattle.model.proofs.Cycles.{Regular}
 use Rattle.model.proofs.Limits.{limits-of}
 use Rattle.model.proofs.Sizes.{none-large}
 use Rattle.model.proofs.Parsed.{parsed-call}
 use Rattle.model.proofs.Beyond.{beyond}
-use Rattle.model.proofs.Searched.{Short}
 use Rattle.model.proofs.Concluded as concluded
 use Rattle.model.proofs.Concluded.{Concluded, reached-at, clear-at, never-at, conclusion}
 

@@ -10,6 +10,7 @@ pub mod Same
 pub mod Zones
 pub mod Rows
 pub mod Tabulated
+pub mod Stored
 pub mod MaxPlus
 pub mod Selections
 pub mod Preimage

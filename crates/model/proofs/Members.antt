@@ -2,13 +2,13 @@
 use Prim.Native.Nat.{ℕ, _<_}
 use mathlib.Core.Path.{_≡_, refl}
 use mathlib.Core.Option.{none, some}
-use lib.IntN.{ℤ, pos, _+ℤ_, _-ℤ_}
+use lib.IntN.{ℤ, pos, _-ℤ_}
 use lib.Dec.{eqb, eqb→eq}
 use mathlib.Core.Bool.{Bool, true, false, cond}
 use Rattle.ints.proofs.Integers.{up, dn, ints, add-ud, sub-ud}
 use Rattle.model.specs.Bound as B
 use Rattle.model.specs.Bound.{Bound, most, LeB, any, Holds, plus, tighter}
-use Rattle.model.proofs.Bounds.{holds-none, holds-sum, leB-trans, plus-mono, plus-comm, plus-zero, tighter-either, tighter-left, tighter-right}
+use Rattle.model.proofs.Bounds.{holds-none, holds-sum, leB-trans, plus-comm, plus-zero, tighter-either, tighter-left, tighter-right}
 use Rattle.model.specs.Matrix.{Matrix, entry, relaxed, everything, diagonal}
 use Rattle.model.proofs.Entries.{entry-matrix}
 use Rattle.model.proofs.Closed.{Closed, Within, free, ruled-out, kept}

@@ -6,15 +6,13 @@ use native.Mathlib.Decide.{decLt}
 use mathlib.Core.Path.{_≡_, refl, sym, ap, _∙_}
 use mathlib.Core.Logic.{_↔_}
 use mathlib.Core.List.{List, [], _∷_}
-use mathlib.Core.Option.{Option, none, some}
 use lib.IntN.{ℤ, pos, _+ℤ_, _-ℤ_}
-use lib.ListN.{length, getD}
+use lib.ListN.{getD}
 use Rattle.ints.proofs.Integers.{up, dn, ints, add-ud, sub-ud}
-use Rattle.model.specs.Lists.{tabulate}
 use Rattle.model.specs.Bound as B
 use Rattle.model.specs.Bound.{Bound, most, any, Holds, plus}
 use Rattle.model.specs.Matrix.{Matrix, entry, Constraint}
-use Rattle.model.specs.Network.{Time, blank, secs, time, latest, after, secsOf, next}
+use Rattle.model.specs.Network.{Time, blank, secs, time, after, secsOf, next}
 use Rattle.model.specs.Search.{chosen, slack, keeps, rowsConstraints, preimage}
 use Rattle.model.proofs.Bounds.{bounds, nat-leB, leB-refl, holds-none, holds-sum, under, plus-comm}
 use Rattle.model.proofs.MaxPlus.{LeT, low, leT-antisym, leT-nat, nat-leT, latestOf-upper, latestOf-least}

@@ -2,12 +2,11 @@
 use Prim.Native.Nat.{ℕ, zero, suc, _+_, _-_, _≤_, _<_, min}
 use native.Mathlib.Omega.{arith}
 use native.Mathlib.Decide.{ℕ-discrete}
-use mathlib.Core.Path.{_≡_, refl, sym, ap, _∙_}
+use mathlib.Core.Path.{_≡_, refl, _∙_}
 use mathlib.Core.Bool.{Bool, true, false, cond, _||_}
 use mathlib.Core.List.{List, [], _∷_}
 use mathlib.Core.Option.{Option, none, some, Option·map}
 use borrow.Author.Tests.{ltb-true, ltb-false, leb-true, leb-false}
-use lib.IntN.{ℤ}
 use lib.ListN.{length}
 use lib.Dec.{ltb, leb}
 use Rattle.model.specs.Lists.{when, orElse}
@@ -15,10 +14,9 @@ use Rattle.model.specs.Bound.{Bound}
 use Rattle.model.specs.Matrix.{Matrix}
 use Rattle.model.specs.Pattern.{onlyDifferences}
 use Rattle.model.specs.Network.{Network, clocked, Repeat, repeatOf}
-use Rattle.model.specs.Search.{previous, lists, common, firstCommon, pick, Outcome, reached, clear, never, tableFull, boundTooLarge, Plan, planWith, plan, someLarge, settled, searchFrom, outcome}
-use Rattle.model.specs.Demands.{Witness, Met, NotBefore, Differences}
+use Rattle.model.specs.Search.{lists, common, firstCommon, pick, Outcome, reached, clear, never, tableFull, boundTooLarge, Plan, planWith, plan, someLarge, settled, searchFrom, outcome}
+use Rattle.model.specs.Demands.{Witness, Met, Differences}
 use Rattle.model.proofs.Listed.{Every, done, both, Some, here, there, some-map, some-at, every-some}
-use Rattle.model.proofs.Members.{Member}
 use Rattle.model.proofs.Patterns.{common-some, common-none}
 use Rattle.model.proofs.Cycles.{Regular}
 use Rattle.model.proofs.ZoneLists.{lists-closed, list-in}

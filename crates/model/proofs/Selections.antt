@@ -5,7 +5,6 @@ use native.Mathlib.Decide.{ℕ-discrete}
 use mathlib.Core.Path.{_≡_, refl, sym, ap, _∙_}
 use mathlib.Core.Bool.{cond}
 use mathlib.Core.List.{List, [], _∷_, map}
-use lib.IntN.{ℤ}
 use lib.ListN.{length, getD}
 use Rattle.model.specs.Network.{Time, blank, secs, time, isTime}
 use Rattle.model.specs.Search.{columns, selections}

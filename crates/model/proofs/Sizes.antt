@@ -6,11 +6,10 @@ use native.Mathlib.Nat.{mul-le-mul}
 use borrow.Author.Tests.{le-ltb}
 use mathlib.Core.Path.{_≡_, refl, sym, ap, _∙_}
 use mathlib.Core.Logic.{_↔_}
-use mathlib.Core.List.{List, [], _∷_, _++_, map, flatten, foldl, foldl-append}
+use mathlib.Core.List.{List, [], _++_, map, flatten, foldl, foldl-append}
 use mathlib.Core.Bool.{false}
 use mathlib.Core.Option.{Option, none, some}
-use lib.IntN.{ℤ, pos, _-ℤ_, natAbs}
-use lib.ListN.{length, getD}
+use lib.IntN.{ℤ, _-ℤ_, natAbs}
 use Rattle.ints.proofs.Integers.{ints, sub-ud, abs-ud}
 use Rattle.model.specs.Lists.{tabulate, anyOf}
 use Rattle.model.specs.Bound as Bd
@@ -23,7 +22,7 @@ use Rattle.model.proofs.Listed.{Every, done, both, every-append, every-
 use Rattle.model.proofs.Entries.{every-entry}
 use Rattle.model.proofs.Closed.{Closed}
 use Rattle.model.proofs.Members.{Member}
-use Rattle.model.proofs.Zones.{In, ClosedZone, closed, Fits, Keeps, same-zones, tighten-closed, tighten-in}
+use Rattle.model.proofs.Zones.{In, Fits, Keeps, same-zones, tighten-closed, tighten-in}
 use Rattle.model.proofs.Patterns.{pattern-fits}
 use Rattle.model.proofs.Rows.{Row, behind}
 use Rattle.model.proofs.Kept.{kept-every, not-any}

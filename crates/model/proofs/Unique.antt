@@ -2,10 +2,9 @@
 use Prim.Native.Nat.{ℕ, _<_}
 use mathlib.Core.Path.{_≡_}
 use mathlib.Core.Logic.{_↔_}
-use lib.IntN.{ℤ, pos, _+ℤ_}
-use Rattle.ints.proofs.Integers.{up, dn, le-nat, add-ud}
-use Rattle.model.specs.Bound as B
-use Rattle.model.specs.Bound.{Bound, most, LeB, any, Holds}
+use lib.IntN.{ℤ}
+use Rattle.ints.proofs.Integers.{le-nat}
+use Rattle.model.specs.Bound.{LeB}
 use Rattle.model.proofs.Bounds.{nat-leB, leB-trans, leB-antisym, leB-of-holds}
 use Rattle.model.specs.Matrix.{Matrix, entry}
 use Rattle.model.proofs.Entries.{ext-entry}

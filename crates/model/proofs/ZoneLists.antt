@@ -4,21 +4,20 @@ use native.Mathlib.Omega.{arith}
 use mathlib.Core.Path.{_≡_, refl, sym, ap, _∙_}
 use mathlib.Core.Logic.{_↔_, ⊎-elim}
 use mathlib.Core.List.{List, [], _∷_, map, flatMap}
-use mathlib.Core.Option.{Option, none, some}
-use lib.IntN.{ℤ, pos, _+ℤ_, _-ℤ_}
+use mathlib.Core.Option.{Option}
+use lib.IntN.{ℤ}
 use lib.ListN.{getD}
 use Rattle.model.specs.Lists.{tabulate}
-use Rattle.model.specs.Bound.{Holds}
-use Rattle.model.specs.Matrix.{Matrix, entry, tighten}
+use Rattle.model.specs.Matrix.{Matrix, tighten}
 use Rattle.model.specs.Pattern.{patternConstraints, InPattern}
 use Rattle.model.specs.Network.{Time, blank, secs, Network, time, latest, after, clocked, next, cycle, cycles}
-use Rattle.model.specs.Search.{selections, preimage, keep, previous, lists}
-use Rattle.model.proofs.MaxPlus.{LeT, latest-attained, latestOf-upper}
+use Rattle.model.specs.Search.{selections, preimage, previous, lists}
+use Rattle.model.proofs.MaxPlus.{latest-attained, latestOf-upper}
 use Rattle.model.proofs.Listed.{Every, done, both, every-map, every-all, map-every, flatMap-every, Some, here, there, some-map, every-some, some-at, in-map, of-map, in-flatMap, of-flatMap}
 use Rattle.model.proofs.Entries.{length-tabulate, getD-tabulate}
 use Rattle.model.proofs.Closed.{Closed}
 use Rattle.model.proofs.Members.{Member}
-use Rattle.model.proofs.Zones.{Is, In, ClosedZone}
+use Rattle.model.proofs.Zones.{Is}
 use Rattle.model.proofs.Cycles.{Column, Regular, next-is, clocked-cycle, cycles-add}
 use Rattle.model.proofs.Patterns.{closed-some, pattern-closed, pattern-in}
 use Rattle.model.proofs.Selections.{Selection, selections-sound, selections-complete, select}

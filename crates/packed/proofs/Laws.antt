@@ -5,19 +5,19 @@ use native.Mathlib.Nat.{pow-suc, suc-mul, mul-add}
 use native.Mathlib.Numerals.{add-one}
 use native.Mathlib.Omega.{arith}
 use mathlib.Core.List.{List, [], _∷_, _++_, map, append-assoc, append-nil}
-use mathlib.Core.Bool.{Bool, true, false, cond, _||_, or-false, or-assoc}
+use mathlib.Core.Bool.{Bool, cond, _||_, or-false, or-assoc}
 use lib.Dec.{leb, eqb}
-use lib.ListN.{length, set, replicate, length-append}
+use lib.ListN.{length, set, length-append}
 use lib.Pow.{pow-mono}
-use lib.Seq.{set-at}
 use borrow.Author.Tests.{leb-true}
+use Rattle.model.proofs.Stored.{padded-set, has-time}
 use Rattle.model.specs.declared.Slot.{Slot}
 use Rattle.model.specs.declared.Fault.{Fault}
 use Rattle.model.specs.declared.Fault.the-variants as fault
 use Rattle.model.specs.Lists.{padded, anyOf}
 use Rattle.model.specs.Network.{isTime, regular}
 use Rattle.model.specs.Faults.{timeOf, nothing, present, beyond}
-use Rattle.model.specs.Packed.{Reading, got, refused, andThen, bitAt, numAt, bits, signed, entry, entries, rows, zeros}
+use Rattle.model.specs.Packed.{got, refused, andThen, bitAt, numAt, bits, signed, entry, entries, rows, zeros}
 use Rattle.model.proofs.Parsed.{Gives, value, no-value, given, test-gives, then-gives, num-small}
 use Rattle.packed.specs.Readings.{Place}
 
@@ -102,27 +102,12 @@ module _ (s : List ℕ) (n i p : ℕ) where
   zeros-end h = rw (none-left n i h)
 
 -- ---- a row with a time
-has-time : (e : Slot) → isTime (timeOf e) ≡ e .has
-unfolding isTime timeOf
-has-time e = go (e .has)
-  where
-    go : (b : Bool) → isTime (timeOf (record { has = b; value = e .value })) ≡ b
-    go true = refl
-    go false = refl
-
 pub regular-more : (es : List Slot) (e : Slot) → regular (map timeOf (es ++ e ∷ [])) ≡ (regular (map timeOf es) || e .has)
 unfolding regular anyOf
 regular-more [] e = or-false (isTime (timeOf e)) ∙ has-time e
 regular-more (x ∷ es) e = rw or-assoc (ap (λ (b : Bool). isTime (timeOf x) || b) (regular-more es e))
 
 -- ---- entries read into an array
-padded-set : (size i : ℕ) (es : List Slot) (e : Slot) → length es ≡ i → i < size → set (padded nothing size es) i e ≡ padded nothing size (es ++ e ∷ [])
-padded-set size i es e l h =
-    let m : size - length es ≡ suc (size - length (es ++ e ∷ [])) = omega (arith, length-append es (e ∷ [])) in
-    ap (λ (k : ℕ). set (es ++ replicate k nothing) i e) m
-    ∙ set-at es nothing (replicate (size - length (es ++ e ∷ [])) nothing) e i l
-    ∙ sym (append-assoc es (e ∷ []) (replicate (size - length (es ++ e ∷ [])) nothing))
-
 -- i of n entries were read from place first on, and stand in the array after the base entries that it held before
 pub record Entries (s : List ℕ) (w limit : ℕ) (f : ℕ → Fault) (n size base first : ℕ) (slots₀ : List Slot)
     (i : ℕ) (slots : List Slot) (next : ℕ) (read : List Slot) : Type 0 where
@@ -156,7 +141,7 @@ module _ {s : List ℕ} {w limit : ℕ} {f : ℕ → Fault} {n size base first :
         place = omega (arith, mul-add (1 + w) i 1);
         stored = λ before l d.
             ap (λ (x : List Slot). set x k e) (r .stored before l d)
-            ∙ padded-set size k (before ++ read) e (omega (arith, length-append before read)) b
+            ∙ padded-set nothing size k (before ++ read) e (omega (arith, length-append before read)) b
             ∙ ap (padded nothing size) (append-assoc before read (e ∷ []));
         rest = r .rest ∙ entries-turn s w limit f n i next read h ∙ simp g;
       }

@@ -3,14 +3,15 @@ use mathlib.Core.Path.{_≡_, sym, ap, _∙_}
 use Prim.Native.Nat.{ℕ, suc, _+_, _-_, _*_, _≤_, _<_}
 use native.Mathlib.Numerals.{add-one, one-add}
 use native.Mathlib.Omega.{arith}
-use mathlib.Core.List.{List, [], _∷_, _++_, map, append-assoc, map-append, map-map, map-id}
+use mathlib.Core.List.{List, [], _∷_, _++_, map, map-append, map-map, map-id}
 use mathlib.Core.Option.{none, some}
 use mathlib.Core.Bool.{true, false, cond}
 use lib.Arith.{digits-lt}
 use lib.IntN.{ℤ, pos}
-use lib.ListN.{length, take, getD, set, replicate, length-append, length-map, List·getD-map}
-use lib.Seq.{set-at, take-at, take-suc, length-take-le, getD-take}
+use lib.ListN.{length, take, getD, set, length-map, List·getD-map}
+use lib.Seq.{take-at, take-suc, length-take-le, getD-take}
 use Rattle.ints.specs.declared.Seconds.{Seconds}
+use Rattle.model.proofs.Stored.{padded-set}
 use Rattle.model.specs.declared.Slot.{Slot}
 use Rattle.model.specs.declared.Case.{Case}
 use Rattle.model.specs.declared.Fault.{Fault}
@@ -65,12 +66,6 @@ value-is e v = elim (e .has) as (λ b. cond b (secs (e .value .0)) blank ≡ sec
 
 -- ---- times in an array
 -- an element stored after those that a padded list starts with
-padded-set : {X : Type 0} (z : X) (size i : ℕ) (es : List X) (e : X) → length es ≡ i → i < size → set (padded z size es) i e ≡ padded z size (es ++ e ∷ [])
-padded-set z size i es e l h =
-    let m : size - length es ≡ suc (size - length (es ++ e ∷ [])) = omega (arith, length-append es (e ∷ [])) in
-    rw m (set-at es z (replicate (size - length (es ++ e ∷ [])) z) e i l)
-    ∙ sym (append-assoc es (e ∷ []) (replicate (size - length (es ++ e ∷ [])) z))
-
 pub stored : (i : ℕ) (xs : List ℤ) (x : ℤ) → length xs ≡ i → i < 7 → set (sevenTimes xs) i (seconds x) ≡ sevenTimes (xs ++ x ∷ [])
 stored i xs x l h = padded-set _ 7 i (map seconds xs) (seconds x) (length-map xs seconds ∙ l) h ∙ ap (padded (seconds (pos 0)) 7) (sym (map-append seconds xs (x ∷ [])))
 

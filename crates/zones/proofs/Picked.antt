@@ -2,12 +2,12 @@
 use Prim.Native.Nat.{ℕ, zero, suc, _+_, _-_, _*_, _≤_, _<_}
 use native.Mathlib.Omega.{arith}
 use mathlib.Core.Path.{_≡_, refl, sym, ap, ap₂, _∙_}
-use mathlib.Core.List.{List, [], _∷_, _++_, map, append-assoc, map-append}
+use mathlib.Core.List.{List, [], _∷_, _++_, map, map-append}
 use lib.IntN.{ℤ, pos, negℤ, natAbs}
-use lib.ListN.{length, getD, set, drop, replicate, length-append, length-map, List·getD-append, List·getD-map}
-use lib.Seq.{set-append-seam}
+use lib.ListN.{length, getD, set, drop, length-append, length-map, List·getD-append, List·getD-map}
 use Rattle.ints.specs.declared.Seconds.{Seconds}
 use Rattle.ints.proofs.Integers.{ints, neg-ud, abs-ud}
+use Rattle.model.proofs.Stored.{padded-set}
 use Rattle.model.specs.Lists.{tabulate, padded}
 use Rattle.model.specs.Bound as B
 use Rattle.model.specs.Bound.{Bound, most, plus, tighter}
@@ -80,11 +80,6 @@ module _ {t : ℕ} {f : ℕ → Bound} {s : ℕ} {b : Bound} (w : Tightest t f s
 
 -- ---- all departures
 -- a list in the front of an array, and one more element
-stored : {X : Type 0} (z : X) (size : ℕ) (xs : List X) (x : X) → length xs < size → set (padded z size xs) (length xs) x ≡ padded z size (xs ++ (x ∷ []))
-stored z size xs x h =
-    let k : size - length xs ≡ suc (size - (length xs + 1)) = omega arith in
-    rw (k, length-append xs (x ∷ []), set-append-seam xs z (replicate (size - (length xs + 1)) z) x) (sym (append-assoc xs (x ∷ []) _))
-
 -- the times of the departures before t are picked, and small; the others are still to be picked
 pub record Picking (n : ℕ) (d : Matrix) (times : List Seconds) (t : ℕ) : Type 0 where
   pub ys : List ℤ
@@ -146,7 +141,7 @@ module _ {n : ℕ} {d : Matrix} {times : List Seconds} {t : ℕ} (w : Picking n 
         ys = w .ys ++ (v .0 ∷ []);
         count = rw (length-append (w .ys) (v .0 ∷ [])) (omega arith);
         upto = omega arith;
-        are = rw (w .are, k) (stored (seconds (pos 0)) 7 (map seconds (w .ys)) v (omega arith) ∙ ap (padded (seconds (pos 0)) 7) (sym (map-append seconds (w .ys) (v .0 ∷ []))));
+        are = rw (w .are, k) (padded-set (seconds (pos 0)) 7 (length (map seconds (w .ys))) (map seconds (w .ys)) v refl (omega arith) ∙ ap (padded (seconds (pos 0)) 7) (sym (map-append seconds (w .ys) (v .0 ∷ []))));
         rest = rw (is ∙ choice-is) (rw r at (w .rest));
         small = every-append (every-map (λ y l. omega arith) (w .small)) (both (omega arith) done);
       }

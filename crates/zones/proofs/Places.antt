@@ -44,6 +44,11 @@ read-at : {X : Type 0} (view : Entry → X) (f : ℤ → X) → ((x : ℤ) → v
 read-at view f same none z k r h fit read =
     ap view (read .is) ∙ same _ ∙ ap f (toZ-ofZ w32 _ fit) ∙ sym (getD-in f z k (pos 0) none h)
 
+-- a number of a zone, or of a pattern, as a bound
+pub getD-bounds : (z : List ℤ) (k : ℕ) → k < length z → getD (boundsIn z) k B.Bound.none ≡ boundIn (getD z k (pos 0))
+unfolding boundsIn
+getD-bounds z k h = getD-in boundIn z k (pos 0) B.Bound.none h
+
 pub bound-read : (z : List ℤ) (k : ℕ) (r : Entry) → k < length z → SFits w32 (getD z k (pos 0)) → Read (toZ w32 (ofZ w32 (getD z k (pos 0)))) r
     → bound r ≡ getD (boundsIn z) k B.Bound.none
 unfolding boundsIn

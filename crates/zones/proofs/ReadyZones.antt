@@ -5,7 +5,7 @@ use native.Mathlib.Nat.{mul-le-mul-right}
 use mathlib.Core.Path.{_≡_, refl, sym, ap, _∙_}
 use mathlib.Core.List.{List, foldl}
 use mathlib.Core.Option.{Option, none, some}
-use mathlib.Core.Bool.{true, false}
+use mathlib.Core.Bool.{Bool, true, false}
 use lib.IntN.{ℤ}
 use lib.ListN.{length}
 use Rattle.model.specs.Matrix.{Matrix, entry, everything, Constraint, constrain}
@@ -20,11 +20,13 @@ use Rattle.zones.specs.Conditions.{Limit, Ready, Left, gone, kept}
 use Rattle.zones.proofs.Places.{bounds-size}
 
 -- what an answer tells
-pub left-none : {o : Option Matrix} {z : List ℤ} → Left o false z → o ≡ none
-left-none gone = refl
+pub left-none : {o : Option Matrix} {b : Bool} {z : List ℤ} → Left o b z → b ≡ false → o ≡ none
+left-none gone e = refl
+left-none (kept h) e = let z : _≡_ {A = ℕ} 0 1 = cc in absurd (omega arith)
 
-pub left-some : {o : Option Matrix} {z : List ℤ} → Left o true z → o ≡ some (boundsIn z)
-left-some (kept e) = ap some (sym e)
+pub left-some : {o : Option Matrix} {b : Bool} {z : List ℤ} → Left o b z → b ≡ true → o ≡ some (boundsIn z)
+left-some gone e = let z : _≡_ {A = ℕ} 0 1 = cc in absurd (omega arith)
+left-some (kept h) e = ap some (sym h)
 
 -- all times
 pub everything-ready : {n B : ℕ} (z : List ℤ) → 1 ≤ n → n ≤ 7 → n * B ≤ Limit → boundsIn z ≡ everything (suc n) → Ready n B z
@@ -47,4 +49,4 @@ module _ {n B : ℕ} {z : List ℤ} (r : Ready n B z) where
   -- what constraints of at most B leave of it may be worked on too
   pub ready-after : {ks : List Constraint} {z′ : List ℤ} → Every (Fits (suc n)) ks → AllSmall B ks → Left (foldl (constrain (suc n)) (some (boundsIn z)) ks) true z′
       → Ready n B z′
-  ready-after {ks} fs ss q = record { some = r .some; few = r .few; limit = r .limit; made = made-all ks (r .made) fs ss (left-some q) }
+  ready-after {ks} fs ss q = record { some = r .some; few = r .few; limit = r .limit; made = made-all ks (r .made) fs ss (left-some q refl) }

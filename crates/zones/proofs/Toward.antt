@@ -50,7 +50,7 @@ module _ {goal : Option Matrix} {n : ℕ} {z : List ℤ} where
     -- it leaves no times
     pub given-up : {r : Bool} {z′ z″ : List ℤ} → Taken n z ks r z′ → not r ≡ true → Left goal false z″
     given-up {r} q t =
-        let e : none ≡ goal = sym (none-stays n ls) ∙ rw (left-none (rw (not-true r t) at q)) at split-rest in
+        let e : none ≡ goal = sym (none-stays n ls) ∙ rw (left-none q (not-true r t)) at split-rest in
         rw (← e) gone
 
     -- it leaves z′, and the second part is to be taken in
@@ -66,7 +66,7 @@ module _ {goal : Option Matrix} {n : ℕ} {z : List ℤ} where
             fits = every-split ks ls (rw (p .is) at (w .taking .fits)) .1;
             small = every-split ks ls (rw (p .is) at (w .taking .small)) .1;
           };
-          rest = rw (left-some left) at split-rest;
+          rest = rw (left-some left refl) at split-rest;
         }
 
   -- none is to be taken in any more

@@ -12,7 +12,8 @@ use mathlib.Core.Option.{some}
 use Rattle.zones.specs.Memory.{boundsIn, timesIn}
 use Rattle.lists.specs.Lists.{withColumn, partIn}
 use Rattle.lists.proofs.Columns.{few-bounds, next-selecting}
-use Rattle.lists.proofs.Going.{left-none, left-some, Going, going-start, going-room, going-past, going-on, going-full, going-done, all-picked}
+use Rattle.zones.proofs.ReadyZones.{left-none, left-some}
+use Rattle.lists.proofs.Going.{Going, going-start, going-room, going-past, going-on, going-full, going-done, all-picked}
 use Rattle.lists.proofs.select.Reads as select
 use Rattle.lists.proofs.select.Kinds as select-kinds
 use Rattle.lists.proofs.+select.Lts-select as select-lts

@@ -10,7 +10,7 @@ use Rattle.model.specs.Matrix.{tighten}
 use Rattle.model.specs.Search.{common}
 use Rattle.lists.proofs.Memory.{stored-beyond}
 use Rattle.lists.proofs.Columns.{few-bounds}
-use Rattle.lists.proofs.Going.{left-none, left-some}
+use Rattle.zones.proofs.ReadyZones.{left-none, left-some}
 use Rattle.lists.proofs.Starting.{target-none, target-some, target-ready}
 use Rattle.lists.proofs.first_list.Statement.{statement}
 use Rattle.lists.proofs.first_list.Tie as tie
