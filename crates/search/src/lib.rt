@@ -2,6 +2,7 @@
 ghost use mathlib.Core.Path.{_≡_};
 ghost use Prim.Native.Nat.{suc, _+_, _*_, _≤_, _<_};
 ghost use mathlib.Core.List.{[]};
+ghost use mathlib.Core.Bool.{true};
 ghost use lib.ListN.{length, drop};
 ghost use Rattle.model.specs.Search.{previous};
 ghost use Rattle.model.specs.Answers.{sevenTimes};
@@ -31,6 +32,17 @@ pub fn plain(verdict: Verdict) -> Answer
     }
 }
 
+// The search ends with this answer.
+fn settled(answer: Answer) -> Step
+    ensures { λ r. ⌜ r ≡ record { ended = true; count = 0; answer = answer } ⌝ }
+{
+    Step {
+        ended: true,
+        count: 0,
+        answer,
+    }
+}
+
 // One cycle: makes list k at goal from the list at source, and looks through it.
 fn one_cycle(
     work: &mut [i32],
@@ -49,11 +61,7 @@ fn one_cycle(
     let built = lists::next_list(work, source, goal, count, capacity, times, n);
     if built.full {
         let answer = plain(Verdict::Refused(Fault::TableFull(Cycle(k))));
-        return Step {
-            ended: true,
-            count: 0,
-            answer,
-        };
+        return settled(answer);
     }
     let found = lists::first_common(work, goal, built.count, start, n);
     if found.some {
@@ -62,11 +70,7 @@ fn one_cycle(
             verdict: Verdict::Reached(Cycle(k)),
             start,
         };
-        return Step {
-            ended: true,
-            count: 0,
-            answer,
-        };
+        return settled(answer);
     }
     let answer = plain(Verdict::Clear(Cycle(k)));
     Step {

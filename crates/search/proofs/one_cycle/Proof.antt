@@ -12,30 +12,37 @@ next-list-requires c κs = let p = c .before .pre in (p .halves, p .inside, sour
 plain-requires : tie.Need-plain-requires
 plain-requires c κs = search needs
 
+settled-requires : tie.Need-settled-requires
+settled-requires c κs = search needs
+
 same-length : tie.Need-same-length
 same-length c = search needs
 
 returns : tie.Need-returns
 returns c =
-    let l = c .before .before .before in
-    rw (c .plain .ensures) (full (held-full (l .next-list .ensures .0) (c .before .if1 .taken)))
+    let l = c .before .before .before .before in
+    rw (c .settled .ensures, c .before .plain .ensures) (full (held-full (l .next-list .ensures .0) (c .before .before .if1 .taken)))
 
 first-common-requires : tie.Need-first-common-requires
 first-common-requires c κs =
     let l = c .before .before .before in
     meeting (l .before .before .pre) (l .next-list .result) (l .next-list .last .0) (l .next-list .kept .0) (c .before .if1 .left) (l .next-list .ensures .0)
 
+settled-requires-2 : tie.Need-settled-requires-2
+settled-requires-2 c κs = search needs
+
 same-length-2 : tie.Need-same-length-2
 same-length-2 c = search needs
 
 returns-2 : tie.Need-returns-2
 returns-2 c =
-    let f = c .before .before in
+    let d = c .before .before in
+    let f = d .before in
     let l = f .before .before .before .before in
     let left = f .before .before .if1 .left in
     let held = l .next-list .ensures .0 in
-    let (z, e, s) = found-some (l .before .before .args .n) _ (rw (held-list held left .1) at (f .first-common .ensures)) (c .before .if2 .taken) in
-    rw s (met (held-open held left) e)
+    let (z, e, s) = found-some (l .before .before .args .n) _ (rw (held-list held left .1) at (f .first-common .ensures)) (d .if2 .taken) in
+    rw (c .settled2 .ensures, s) (met (held-open held left) e)
 
 plain-requires-2 : tie.Need-plain-requires-2
 plain-requires-2 c κs = search needs
@@ -59,9 +66,11 @@ one-cycle-spec =
     (tie.spec
     next-list-requires
     plain-requires
+    settled-requires
     same-length
     returns
     first-common-requires
+    settled-requires-2
     same-length-2
     returns-2
     plain-requires-2
