@@ -9,10 +9,10 @@ ghost use Rattle.model.specs.Faults.{timeOf, boundOf, patternSize};
 ghost use Rattle.model.proofs.Listed.{Every};
 ghost use Rattle.model.proofs.Limits.{InLimit};
 ghost use Rattle.zones.specs.Memory.{boundIn, timeIn, boundsIn, timesIn};
+use model::BOUNDS;
 use model::Slot;
-
-// Stands for no bound, and for a blank.
-const NONE: i32 = 2147483647;
+use model::TIMES;
+use zones::NONE;
 
 // An entry as a number in memory.
 fn raw(entry: Slot) -> i32
@@ -27,12 +27,12 @@ fn raw(entry: Slot) -> i32
     }
 }
 
-// The table, and a pattern, in memory.
-pub fn times_in(times: [Slot; 49], n: usize) -> [i32; 49]
+// The table in memory: the first n * n numbers; those beyond are free.
+pub fn times_in(times: [Slot; TIMES], n: usize) -> [i32; TIMES]
     requires { ⌜ (n ≤ 7) × Every (InLimit 1000000) (take (n * n) times) ⌝ }
     ensures { λ r. ⌜ (timesIn (take (n * n) r) ≡ map timeOf (take (n * n) times)) × (length r ≡ 49) ⌝ }
 {
-    let mut memory = [0i32; 49];
+    let mut memory = [0i32; TIMES];
     let count = n * n;
     for k in 0..count {
         let entry = times[k];
@@ -41,11 +41,12 @@ pub fn times_in(times: [Slot; 49], n: usize) -> [i32; 49]
     memory
 }
 
-pub fn bounds_in(bounds: [Slot; 56], n: usize) -> [i32; 56]
+// A pattern in memory: the first n * (n + 1) numbers; those beyond are free.
+pub fn bounds_in(bounds: [Slot; BOUNDS], n: usize) -> [i32; BOUNDS]
     requires { ⌜ (n ≤ 7) × Every (InLimit 1000000) (take (patternSize n) bounds) ⌝ }
     ensures { λ r. ⌜ (boundsIn (take (patternSize n) r) ≡ map boundOf (take (patternSize n) bounds)) × (length r ≡ 56) ⌝ }
 {
-    let mut memory = [0i32; 56];
+    let mut memory = [0i32; BOUNDS];
     let count = n * (n + 1);
     for k in 0..count {
         let entry = bounds[k];
@@ -72,6 +73,7 @@ pub fn only_differences(pattern: &[i32], n: usize) -> bool
     true
 }
 
+// Sets every number to 0.
 pub fn clear(work: &mut [i32])
     ensures { λ r. ⌜ now (work .exit) ≡ replicate (length (now (work .entry))) (pos 0) ⌝ }
 {

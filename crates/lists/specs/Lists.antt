@@ -32,7 +32,7 @@ unfoldable pub listIn : ℕ → ℕ → List ℤ → List Matrix
 listIn size count work = tabulate count 0 (zoneAt size work)
 
 -- the list zs, or that it is longer than the capacity; what lies beyond the capacity's zones is not touched.
--- Where the list is too long the zones themselves are free.
+-- Where the list is too long the zones themselves and the count are free.
 pub record Holds (size capacity : ℕ) (zs : List Matrix) (r : Built) (before after : List ℤ) : Type 0 where
   pub beyond : drop (capacity * size) after ≡ drop (capacity * size) before
   pub fits : length zs ≤ capacity → (r ≡ record { count = length zs; full = false }) × (listIn size (length zs) after ≡ zs)

@@ -15,8 +15,8 @@ ghost use Rattle.zones.specs.Memory.{boundsIn, timesIn};
 ghost use Rattle.zones.specs.Conditions.{Left, CommonReady};
 ghost use Rattle.lists.specs.Lists.{zoneAt, listIn, Holds, Room, extensions, withColumn, partIn, Selecting, Sources, Halves, Meets, Meeting, foundBy};
 use ints::Seconds;
-
-const NONE: i32 = 2147483647;
+use model::DEPARTURES;
+use zones::NONE;
 
 // A list made anew: its length, or that it has no room.
 pub struct Built {
@@ -27,9 +27,10 @@ pub struct Built {
 // The start picked in what the first zone of a list that meets a pattern has in common with it, if there is one.
 pub struct Found {
     pub some: bool,
-    pub start: [Seconds; 7],
+    pub start: [Seconds; DEPARTURES],
 }
 
+// Two numbers in memory are equal.
 fn equal(a: i32, b: i32) -> bool
     ensures { λ r. ⌜ r ≡ sameZ a b ⌝ }
 {
@@ -247,7 +248,7 @@ fn pull_back(
     )
 }
 
-// The list made from the list at source, at goal.
+// The list made from the list at source, at goal. Nothing outside the half at goal changes.
 pub fn next_list(
     work: &mut [i32],
     source: usize,
@@ -275,7 +276,7 @@ pub fn next_list(
     built
 }
 
-// List 0, at the front of the workspace: the target, or nothing.
+// List 0, at the front of the workspace: the target, or nothing, and then the numbers of the first zone are free.
 pub fn first_list(work: &mut [i32], pattern: &[i32], n: usize) -> usize
     requires { ⌜ Meets n 1000000 (now pattern) × ((n + 1) * (n + 1) ≤ length (now work)) ⌝ }
     ensures { λ r. ⌜ (listIn ((n + 1) * (n + 1)) r (now (work .exit)) ≡ keep [] (tighten (suc n) (patternConstraints n (boundsIn (now (pattern .entry)))))) × (r ≤ 1) × (drop ((n + 1) * (n + 1)) (now (work .exit)) ≡ drop ((n + 1) * (n + 1)) (now (work .entry))) ⌝ }
@@ -306,6 +307,6 @@ pub fn first_common(work: &[i32], base: usize, count: usize, pattern: &[i32], n:
     }
     Found {
         some: false,
-        start: [Seconds(0); 7],
+        start: [Seconds(0); DEPARTURES],
     }
 }

@@ -12,6 +12,7 @@ ghost use Rattle.search.specs.Searching.{networkIn, Searchable, Stepping
 use ints::Cycle;
 use ints::Seconds;
 use model::Answer;
+use model::DEPARTURES;
 use model::Fault;
 use model::Verdict;
 
@@ -28,7 +29,7 @@ pub fn plain(verdict: Verdict) -> Answer
 {
     Answer {
         verdict,
-        start: [Seconds(0); 7],
+        start: [Seconds(0); DEPARTURES],
     }
 }
 

@@ -20,7 +20,7 @@ use ints::Seconds;
 use model::DEPARTURES;
 
 // Stands for no bound, and for a blank.
-const NONE: i32 = 2147483647;
+pub const NONE: i32 = 2147483647;
 
 // A number in memory: a bound of a zone or of a pattern, or a time of the table.
 enum Entry {
