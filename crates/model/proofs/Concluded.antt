@@ -4,18 +4,17 @@ use native.Mathlib.Omega.{arith}
 use mathlib.Core.Path.{_≡_, refl, ap}
 use mathlib.Core.Logic.{inl, inr, ⊎-elim}
 use mathlib.Core.Bool.{true, false}
-use mathlib.Core.List.{List}
 use mathlib.Core.Option.{Option, none, some}
-use lib.IntN.{ℤ}
 use lib.ListN.{length}
+use Rattle.model.specs.Matrix.{Matrix}
 use Rattle.model.specs.Network.{Network}
-use Rattle.model.specs.Search.{lists, someLarge, Outcome, reached, clear, never, tableFull, boundTooLarge, pick, Plan, plan, outcome}
-use Rattle.model.specs.Demands.{Witness, Met, NotBefore, First, EndsEarly, NeverHolds}
+use Rattle.model.specs.Search.{lists, firstCommon, someLarge, Outcome, reached, clear, never, tableFull, boundTooLarge, pick, Plan, plan, outcome}
+use Rattle.model.specs.Demands.{Met, NotBefore, First, EndsEarly, NeverHolds}
 use Rattle.model.proofs.Cycles.{Regular}
 use Rattle.model.proofs.Searched.{met-by, unmet, Settled, full, large, met, unsettled, settled-is, settledAt, Ending, stopped, passed, outcome-ends, Short, Planned, whole, short, plan-is}
 
 pub data Concluded (w : Network) (capacity : ℕ) : Outcome → Type 0 where
-  reached-at : {xs : List ℤ} {k : ℕ} → First w k → Witness w k xs → Concluded w capacity (reached k xs)
+  reached-at : {d : Matrix} {k : ℕ} → First w k → firstCommon (w .n) (w .start) (lists w k) ≡ some d → Concluded w capacity (reached k (pick (w .n) d))
   table-full : {k : ℕ} → EndsEarly w capacity → Concluded w capacity (tableFull k)
   bound-too-large : {k : ℕ} → k ≤ w .horizon → someLarge (lists w k) ≡ true → EndsEarly w capacity → Concluded w capacity (boundTooLarge k)
   clear-at : (Short w → ⊥) → NotBefore w (suc (w .horizon)) → Concluded w capacity (clear (w .horizon))
@@ -41,9 +40,8 @@ module _ (w : Network) (capacity : ℕ) (reg : Regular (w .n) (w .times)) where
   settles j l u h before (large f g) p e = let q : boundTooLarge j ≡ p = cc in
       rw (← q) (bound-too-large {k = j} (omega arith) g (record { at = j; from-one = l; searched = u; too-much = inr g; unmet = before }))
   settles j l u h before (met {c} f g k) p e =
-      let s = met-by w reg j k in
       let q : reached j (pick (w .n) c) ≡ p = cc in
-      rw (← q) (reached-at (record { from-one = l; to-horizon = omega arith; not-before = before; met = (pick (w .n) c, s) }) s)
+      rw (← q) (reached-at (record { from-one = l; to-horizon = omega arith; not-before = before; met = (pick (w .n) c, met-by w reg j k) }) k)
   settles j l u h before (unsettled f g k) p e = let z : _≡_ {A = ℕ} 0 1 = cc in absurd (omega arith)
 
   -- past all cycles

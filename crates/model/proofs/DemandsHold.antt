@@ -13,13 +13,16 @@ use Rattle.model.specs.declared.Case.{Case}
 use Rattle.model.specs.declared.Fault.{Fault}
 use Rattle.model.specs.declared.Verdict.{Verdict}
 use Rattle.model.specs.declared.Verdict.the-variants as verdict
+use Rattle.model.specs.Matrix.{Matrix}
 use Rattle.model.specs.Network.{Network}
-use Rattle.model.specs.Search.{Outcome, reached, clear, never, tableFull, boundTooLarge, outcome}
+use Rattle.model.specs.Search.{Outcome, reached, clear, never, tableFull, boundTooLarge, pick, outcome}
 use Rattle.model.specs.Faults.{network, callFault}
-use Rattle.model.specs.Answers.{seconds, cycleNumber, value, refusal, answered, answer, workspaceAfter, answerPacked, workspaceAfterPacked}
+use Rattle.model.specs.Answers.{seconds, cycleNumber, sevenTimes, value, refusal, answered, answer, workspaceAfter, answerPacked, workspaceAfterPacked}
 use Rattle.model.specs.Demands as D
 use Rattle.model.specs.Demands.{InLimits, Decided, Ended, decided, table-full, bound-too-large, Demand1, Witness, NotBefore, First, Demand2, NeverHolds, Demand3, Demands, PackedDemands}
 use Rattle.model.proofs.Cycles.{Regular}
+use Rattle.model.proofs.Start.{pick-length}
+use Rattle.model.proofs.Searched.{met-by}
 use Rattle.model.proofs.Limits.{limits-of}
 use Rattle.model.proofs.Sizes.{none-large}
 use Rattle.model.proofs.Parsed.{parsed-call}
@@ -54,7 +57,11 @@ demand1 c capacity work = record {
   refuses = λ f e. (answer-refused c capacity (length work) f e, rw e);
 }
 
--- the numbers of times handed back
+-- the first n of the seven times handed back are those picked
+pub first-times : (n : ℕ) (d : Matrix) → take n (sevenTimes (pick n d)) ≡ map seconds (pick n d)
+first-times n d = take-at (map seconds (pick n d)) _ n (length-map (pick n d) seconds ∙ pick-length n d)
+
+-- the numbers of times
 numbers : (xs : List ℤ) → map (λ x. x .0) (map seconds xs) ≡ xs
 numbers [] = refl
 numbers (x ∷ xs) = ap (_∷_ x) (numbers xs)
@@ -91,9 +98,9 @@ module _ (w : Network) (capacity : ℕ) (reg : Regular (w .n) (w .times)) where
 
   started : {o : Outcome} → Concluded w capacity o → (k : ℕ) → Verdict-of o ≡ verdict.Reached (cycleNumber k)
       → Witness w k (map (λ x. x .0) (take (w .n) (answered o .start)))
-  started (reached-at {xs} {k = j} f s) k e =
+  started (reached-at {d} {k = j} f s) k e =
       let q : j ≡ k = ap value e in
-      rw (← q, take-at (map seconds xs) _ (w .n) (length-map xs seconds ∙ s .size), numbers xs) s
+      rw (← q, first-times (w .n) d, numbers (pick (w .n) d)) (met-by w reg j s)
   started (concluded.table-full e) k q = let z : _≡_ {A = ℕ} 0 1 = cc in absurd (omega arith)
   started (concluded.bound-too-large l s e) k q = let z : _≡_ {A = ℕ} 0 1 = cc in absurd (omega arith)
   started (clear-at s unmet) k q = let z : _≡_ {A = ℕ} 0 1 = cc in absurd (omega arith)

@@ -17,6 +17,7 @@ pub mod Preimage
 pub mod Kept
 pub mod Cycles
 pub mod Powers
+pub mod Prefix
 pub mod Repeats
 pub mod Patterns
 pub mod ZoneLists
@@ -30,3 +31,4 @@ pub mod Concluded
 pub mod Limits
 pub mod Parsed
 pub mod DemandsHold
+pub mod Runs

@@ -173,11 +173,15 @@ pub record Limits (w : Network) : Type 0 where
   pub start-small : (i j : ℕ) (b : ℤ) → pairBound (w .n) (w .start) i j ≡ most b → natAbs b ≤ 1000000
   pub target-small : (i j : ℕ) (b : ℤ) → pairBound (w .n) (w .target) i j ≡ most b → natAbs b ≤ 1000000
 
+-- of start times
+abbrev pub StartsSmall : List Seconds → Type 0
+StartsSmall xs = Every (λ x. natAbs (x .0) ≤ 1000000000000) xs
+
 -- of a run to cycle k from the start times xs on
 pub record RunLimits (c : Case) (xs : List Seconds) (k : ℕ) : Type 0 where
   pub table : TableLimits (c .n) (network c .times)
   pub few-cycles : k ≤ 64
-  pub starts-small : Every (λ x. natAbs (x .0) ≤ 1000000000000) (take (c .n) xs)
+  pub starts-small : StartsSmall (take (c .n) xs)
 
 -- a table of rows in their limit is in the limits
 table-of : {n : ℕ} {es : List Slot} → 1 ≤ n → n ≤ 7 → RowsInLimit n n es → TableLimits n (map timeOf (take (n * n) es))
@@ -202,6 +206,14 @@ module _ (c : Case) (capacity size : ℕ) (h : callFault c capacity size ≡ non
   pub room-of : (1 ≤ capacity) × (capacity ≤ 4096) × (2 * capacity * (c .n + 1) * (c .n + 1) ≤ size)
   unfolding callFault roomFault outside
   room-of = let facts = simp no-fault at h in omega arith
+
+  -- a run of the case to a cycle from 0 to 64 meets no fault if its start times are in their limit
+  pub run-without : (xs : List Seconds) (k : ℕ) → k ≤ 64 → StartsSmall (take (c .n) xs) → runFault c xs k ≡ none
+  unfolding callFault runFault tableFault outside beyond
+  run-without xs k l small =
+      let facts = simp no-fault at h in
+      let starts = map-every {P = InLimit 1000000000000} (λ x. present (x .0)) (every-map (λ x. le-ltb _ _) small) in
+      simp no-fault ((facts .0 .0, ((omega arith, omega arith), facts .0 .1 .1)), starts)
 
 -- a run without a fault is in the limits
 pub run-limits : (c : Case) (xs : List Seconds) (k : ℕ) → runFault c xs k ≡ none → RunLimits c xs k

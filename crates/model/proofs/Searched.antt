@@ -24,7 +24,7 @@ use Rattle.model.proofs.Start.{pick-length, pick-member}
 
 -- ---- the first zone that has something in common with a pattern
 module _ (n : ℕ) (b : List Bound) where
-  first-some : {c : Matrix} (zs : List Matrix) → firstCommon n b zs ≡ some c → Some (λ z. common n z b ≡ some c) zs
+  pub first-some : {c : Matrix} (zs : List Matrix) → firstCommon n b zs ≡ some c → Some (λ z. common n z b ≡ some c) zs
   unfolding firstCommon
   first-some [] e = absurd (let z : _≡_ {A = ℕ} 0 1 = cc in omega arith)
   first-some {c} (z ∷ zs) e = go (common n z b) refl e (first-some zs)

@@ -14,6 +14,7 @@ use borrow.Author.Tests.{leb-true, leb-false, le-leb, lt-leb}
 use Rattle.ints.proofs.Integers.{up, dn, ints, add-ud, sub-ud, neg-ud, pos-ud, abs-ud}
 use Rattle.model.specs.Bound.{Bound, none, most, any, Holds, plus}
 use Rattle.model.specs.Matrix.{Matrix, entry, Constraint, tighten}
+use Rattle.model.specs.Search.{leastOr}
 use Rattle.model.proofs.Bounds.{bounds}
 use Rattle.model.proofs.Listed.{Every, done, both}
 use Rattle.model.proofs.Closed.{Closed}
@@ -40,11 +41,29 @@ pub small-mono : {B C : ℕ} {b : Bound} → B ≤ C → Small B b → Small C b
 small-mono l free = free
 small-mono l (sized {z} h) = sized {z = z} (omega arith)
 
--- adding a number of at most C in size adds at most C
-pub small-plus : {B C : ℕ} {b : Bound} (c : ℤ) → Small B b → natAbs c ≤ C → Small (B + C) (plus b (most c))
+-- sums, differences and negations
+pub small-sum : {B C : ℕ} {b c : Bound} → Small B b → Small C c → Small (B + C) (plus b c)
 unfolding plus
-small-plus c free k = free
-small-plus c (sized {z} h) k = sized {z = z +ℤ c} (omega (ints, add-ud z c, abs-ud z, abs-ud c, abs-ud (z +ℤ c)))
+small-sum free k = free
+small-sum (sized h) free = free
+small-sum (sized {z} h) (sized {z = y} k) = sized {z = z +ℤ y} (omega (ints, add-ud z y, abs-ud z, abs-ud y, abs-ud (z +ℤ y)))
+
+pub minus-small : {B : ℕ} (x y : ℤ) → natAbs x ≤ B → natAbs y ≤ B → natAbs (x -ℤ y) ≤ B + B
+minus-small x y h k = omega (ints, abs-ud x, abs-ud y, abs-ud (x -ℤ y), sub-ud x y)
+
+pub neg-small : {B : ℕ} (z : ℤ) → natAbs z ≤ B → natAbs (negℤ z) ≤ B
+neg-small z h = omega (ints, neg-ud z, abs-ud z, abs-ud (negℤ z))
+
+-- a bound of at most S, and a time of at most t * S
+pub term-small : {S : ℕ} (t : ℕ) {b : Bound} (z : ℤ) → Small S b → natAbs z ≤ t * S → Small (suc t * S) (plus b (most z))
+term-small {S} t z h k = small-mono (omega arith) (small-sum {C = t * S} h (sized {z = z} k))
+
+-- the time that is taken between two bounds
+pub least-small : {B : ℕ} {w u : Bound} → Small B w → Small B u → natAbs (leastOr w u) ≤ B
+unfolding leastOr
+least-small (sized {z} h) s = neg-small z h
+least-small free (sized h) = h
+least-small free free = omega arith
 
 -- every time that is not early is more than B after every early time
 abbrev Separated : ℕ → ℕ → (ℕ → ℤ) → (ℕ → Bool) → Type 0

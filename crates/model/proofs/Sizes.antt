@@ -10,7 +10,6 @@ use mathlib.Core.List.{List, [], _++_, map, flatten, foldl, foldl-append}
 use mathlib.Core.Bool.{false}
 use mathlib.Core.Option.{Option, none, some}
 use lib.IntN.{ℤ, _-ℤ_, natAbs}
-use Rattle.ints.proofs.Integers.{ints, sub-ud, abs-ud}
 use Rattle.model.specs.Lists.{tabulate, anyOf}
 use Rattle.model.specs.Bound as Bd
 use Rattle.model.specs.Bound.{Bound, most, plus}
@@ -26,7 +25,7 @@ use Rattle.model.proofs.Zones.{In, Fits, Keeps, same-zones, tighten-clo
 use Rattle.model.proofs.Patterns.{pattern-fits}
 use Rattle.model.proofs.Rows.{Row, behind}
 use Rattle.model.proofs.Kept.{kept-every, not-any}
-use Rattle.model.proofs.Size.{Small, free, sized, small-mono, small-plus, tightest-small}
+use Rattle.model.proofs.Size.{Small, free, sized, small-mono, small-sum, minus-small, tightest-small}
 use Rattle.model.proofs.Selections.{Selection, Chosen, clock, column, Cols, chosen-fits, selections-sound}
 use Rattle.model.proofs.Preimage.{Selected, col, cols, value, value-image, keeps-value, attains-behind, preimage-closed, preimage-in}
 use Rattle.model.proofs.ZoneLists.{member-at, lists-closed}
@@ -56,19 +55,16 @@ module _ (n : ℕ) (a : List Time) (ts : TimesSmall n a) where
   added-small clock = omega arith
   added-small (column {r} {s} k) = rw (k .is) (ts (suc r) s (k .value) (k .is))
 
-  apart-small : (c t : ℤ) → natAbs c ≤ 86400 → natAbs t ≤ 86400 → natAbs (c -ℤ t) ≤ 172800
-  apart-small c t h k = omega (ints, abs-ud c, abs-ud t, abs-ud (c -ℤ t), sub-ud c t)
-
   slack-small : (i j : ℕ) (c : ℤ) → natAbs c ≤ 86400 → Small 172800 (slack c (time n a i j))
   unfolding slack
   slack-small i j c h = go (time n a i j) refl
     where
       go : (t : Time) → time n a i j ≡ t → Small 172800 (slack c t)
       go blank e = free
-      go (secs t) e = sized (apart-small c t h (ts i j t e))
+      go (secs t) e = sized (minus-small c t h (ts i j t e))
 
   between-small : {i l s t : ℕ} → Chosen n a i s → Chosen n a l t → natAbs (chosen n a i s -ℤ chosen n a l t) ≤ 172800
-  between-small {i} {l} {s} {t} p q = apart-small (chosen n a i s) (chosen n a l t) (added-small p) (added-small q)
+  between-small {i} {l} {s} {t} p q = minus-small (chosen n a i s) (chosen n a l t) (added-small p) (added-small q)
 
   -- the constraints of a row, where the zone's entries are at most S in size
   pub row-small : (d : Matrix) (S : ℕ) → ((i j : ℕ) → i < suc n → j < suc n → Small S (entry (suc n) d i j))
@@ -76,8 +72,8 @@ module _ (n : ℕ) (a : List Time) (ts : TimesSmall n a) where
   unfolding keeps
   row-small d S ds {i} h before c = record {
     attained = λ j k. small-mono (omega arith) (slack-small i (1 + j) _ (added-small c));
-    ahead = λ l k. small-plus _ (ds i l (omega arith) (omega arith)) (between-small (before l k) c);
-    back = λ l k. small-plus _ (ds l i (omega arith) (omega arith)) (between-small c (before l k));
+    ahead = λ l k. small-sum (ds i l (omega arith) (omega arith)) (sized (between-small (before l k) c));
+    back = λ l k. small-sum (ds l i (omega arith) (omega arith)) (sized (between-small c (before l k)));
   }
 
   module _ (d : Matrix) (sel : List ℕ) (q : Selection n a n 1 sel) where
@@ -130,7 +126,7 @@ module _ (n : ℕ) (a : List Time) (ts : TimesSmall n a) where
       unfolding ks
       ks-small = every-append
           (in-attained (λ k. Small (B + 172800) (k .limit)) (λ r h j k. small-mono (omega arith) (slack-small (suc r) (1 + j) _ (added-small (at (suc r) (omega arith))))))
-          (map-every back (every-both (λ k f s. small-plus _ s (between-small (at (k .col) (f .col-fits)) (at (k .row) (f .row-fits)))) (m .fits) (m .small)))
+          (map-every back (every-both (λ k f s. small-sum s (sized (between-small (at (k .col) (f .col-fits)) (at (k .row) (f .row-fits))))) (m .fits) (m .small)))
 
       module _ (x : ℕ → ℤ) where
         abbrev v : ℕ → ℤ
@@ -166,18 +162,23 @@ module _ (n : ℕ) (a : List Time) (ts : TimesSmall n a) where
         is = same-zones (suc n) (tighten-closed (suc n) ks-fit) (preimage-closed n a d sel q) (λ x. ks-say x cl) ∙ e;
       }
 
+-- ---- a pattern whose bounds are at most B in size
+bound-small : {B : ℕ} (b : Bound) → ((z : ℤ) → b ≡ most z → natAbs z ≤ B) → Small B b
+bound-small Bd.Bound.none h = free
+bound-small (most z) h = sized (h z refl)
+
+pub pattern-small : (n : ℕ) (b : List Bound) {B : ℕ} → ((i j : ℕ) (z : ℤ) → pairBound n b i j ≡ most z → natAbs z ≤ B) → AllSmall B (patternConstraints n b)
+unfolding patternConstraints
+pattern-small n b h = every-flatten (every-tabulate (suc n) 0 _ (λ i hi. every-tabulate (suc n) 0 _ (λ j hj. bound-small _ (h _ _))))
+
 -- ---- the zones of list k
 module _ (w : Network) (ts : TimesSmall (w .n) (w .times)) (target-small : (i j : ℕ) (b : ℤ) → pairBound (w .n) (w .target) i j ≡ most b → natAbs b ≤ 1000000) where
-  bound-small : {B : ℕ} (b : Bound) → ((z : ℤ) → b ≡ most z → natAbs z ≤ B) → Small B b
-  bound-small Bd.Bound.none h = free
-  bound-small (most z) h = sized (h z refl)
-
   pub made-lists : (k : ℕ) → Every (Made (w .n) (1000000 + 172800 * k)) (lists w k)
-  unfolding lists previous patternConstraints
+  unfolding lists previous
   made-lists zero = kept-every done (both (λ z e. record {
     by = patternConstraints (w .n) (w .target);
     fits = pattern-fits (w .n) (w .target);
-    small = every-flatten (every-tabulate (suc (w .n)) 0 _ (λ i hi. every-tabulate (suc (w .n)) 0 _ (λ j hj. bound-small _ (target-small _ _))));
+    small = pattern-small (w .n) (w .target) target-small;
     is = e;
   }) done)
   made-lists (suc k) =

@@ -1,28 +1,31 @@
 -- The start that is picked: it is a member of its zone, and each departure has the least time possible, given those before it;
--- if there is no least, the greatest; if neither, 0.
-use Prim.Native.Nat.{ℕ, zero, suc, _+_, _≤_, _<_}
+-- if there is no least, the greatest; if neither, 0. No time is larger than n of the zone's finite bounds.
+use Prim.Native.Nat.{ℕ, zero, suc, _+_, _*_, _≤_, _<_}
 use native.Mathlib.Omega.{arith}
 use native.Mathlib.Decide.{ℕ-discrete}
+use native.Mathlib.Nat.{mul-le-mul-right}
 use mathlib.Core.Path.{_≡_, refl, sym, ap, ap₂, _∙_, fun-ext}
 use mathlib.Core.List.{List, [], _∷_, _++_}
 use mathlib.Core.Option.{some}
-use lib.IntN.{ℤ, pos, negℤ, _-ℤ_}
+use lib.IntN.{ℤ, pos, negℤ, _-ℤ_, natAbs}
 use lib.Signed.{_≤ℤ_}
 use lib.ListN.{length, getD, length-append, length-drop, List·getD-append}
 use lib.Seq.{getD-append-seam, getD-drop}
 use Rattle.ints.proofs.Integers.{ints, add-ud, sub-ud, neg-ud}
 use Rattle.model.specs.Lists.{tabulate}
 use Rattle.model.specs.Bound as B
-use Rattle.model.specs.Bound.{Bound, most, any, Holds, tighter}
-use Rattle.model.specs.Matrix.{Matrix}
+use Rattle.model.specs.Bound.{Bound, most, any, Holds, plus, tighter}
+use Rattle.model.specs.Matrix.{Matrix, entry}
 use Rattle.model.specs.Pattern.{InPattern}
 use Rattle.model.specs.Network.{clocked}
 use Rattle.model.specs.Search.{common, tightest, above, below, leastOr, choices, pick}
 use Rattle.model.proofs.Bounds.{bounds, leB-refl, leB-trans, holds-sum, between, plus-none, tighter-left, tighter-right}
+use Rattle.model.proofs.Listed.{Every, every-getD}
 use Rattle.model.proofs.Closed.{Closed}
 use Rattle.model.proofs.Members.{Member}
 use Rattle.model.proofs.Attained.{tightestOf-either, Upto, latest, earliest, Possible, next-time, upto-next, takes-next}
 use Rattle.model.proofs.Patterns.{common-some}
+use Rattle.model.proofs.Size.{Small, free, small-mono, term-small, neg-small, least-small}
 
 -- where any time is between two bounds, the one taken is
 taken-between : (w u : Bound) (v : ℤ) → Holds v u → Holds (negℤ v) w → Holds (leastOr w u) u × Holds (negℤ (leastOr w u)) w
@@ -109,6 +112,29 @@ module _ (n : ℕ) (z : Matrix) where
   -- so each is the one taken, given those before it
   picked-taken : (t : ℕ) → t < suc n → picked t ≡ taken (suc n) z t picked
   picked-taken t h = rw picked-choices (choices-taken (suc n) z (suc n) [] t (omega arith) (omega arith))
+
+  -- where no finite bound is larger than S, time t is at most t * S in size
+  module _ {S : ℕ} (small : (i j : ℕ) → i < suc n → j < suc n → Small S (entry (suc n) z i j)) where
+    one-small : (t : ℕ) → t < suc n → ((s : ℕ) → s < t → natAbs (picked s) ≤ s * S) → natAbs (picked t) ≤ t * S
+    one-small t h before = rw (picked-taken t h) (least-small
+        (tightestOf-either (Small (t * S)) t _ free (λ s l. term s l (negℤ (picked s)) (small s t (omega arith) h) (neg-small (picked s) (before s l))))
+        (tightestOf-either (Small (t * S)) t _ free (λ s l. term s l (picked s) (small t s h (omega arith)) (before s l))))
+      where
+        term : (s : ℕ) → s < t → {b : Bound} (v : ℤ) → Small S b → natAbs v ≤ s * S → Small (t * S) (plus b (most v))
+        term s l v d k = small-mono (mul-le-mul-right S l) (term-small s v d k)
+
+    picked-small : (t : ℕ) → t ≤ suc n → (s : ℕ) → s < t → natAbs (picked s) ≤ s * S
+    picked-small zero h s l = absurd (omega arith)
+    picked-small (suc t) h s l = elim (ℕ-discrete s t) [
+      | yes e ↦ rw e (one-small t h (picked-small t (omega arith)))
+      | no ne ↦ picked-small t (omega arith) s (omega arith)
+    ]
+
+    pub pick-small : Every (λ x. natAbs x ≤ n * S) (pick n z)
+    unfolding clocked
+    pick-small = every-getD (pos 0) (pick n z) (λ i l.
+        let m : suc i ≤ n = omega (arith, pick-length) in
+        omega (arith, picked-small (suc n) (omega arith) (suc i) (omega arith), mul-le-mul-right S m))
 
 -- a member of the zone with the times picked for departures 1 to i, and for the clock, j = 0
 pub record Agrees (n : ℕ) (z : Matrix) (i : ℕ) (x : ℕ → ℤ) : Type 0 where

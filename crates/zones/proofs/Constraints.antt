@@ -1,22 +1,20 @@
 -- What row i adds, and what a pattern says, can be taken in.
-use Prim.Native.Nat.{ℕ, suc, _≤_}
-use mathlib.Core.Path.{_≡_, refl}
+use Prim.Native.Nat.{ℕ, suc}
+use mathlib.Core.Path.{refl}
 use mathlib.Core.List.{List, foldl}
 use mathlib.Core.Option.{some}
 use mathlib.Core.Bool.{true}
-use lib.IntN.{ℤ, natAbs}
-use Rattle.model.specs.Bound as B
-use Rattle.model.specs.Bound.{Bound, most}
+use lib.IntN.{ℤ}
 use Rattle.model.specs.Matrix.{constrain}
 use Rattle.model.specs.Pattern.{patternConstraints}
 use Rattle.model.specs.Search.{attains, rowConstraints}
-use Rattle.model.proofs.Listed.{every-map, every-tabulate, every-flatten}
+use Rattle.model.proofs.Listed.{every-map}
 use Rattle.model.proofs.Selections.{chosen-at}
 use Rattle.model.proofs.Rows.{of-row}
 use Rattle.model.proofs.Preimage.{row-fits}
 use Rattle.model.proofs.Patterns.{pattern-fits}
-use Rattle.model.proofs.Size.{Small, free, sized, small-mono}
-use Rattle.model.proofs.Sizes.{AllSmall, row-small}
+use Rattle.model.proofs.Size.{small-mono}
+use Rattle.model.proofs.Sizes.{AllSmall, row-small, pattern-small}
 use Rattle.zones.specs.Memory.{boundsIn, timesIn}
 use Rattle.zones.specs.Conditions.{Ready, Left, RowReady, CommonReady}
 use Rattle.zones.specs.Inner.{Taking, Adds, images}
@@ -56,18 +54,13 @@ unfolding rowConstraints
 row-parts n times zone cols i s = record { is = refl }
 
 -- a pattern
-bound-small : {B : ℕ} (b : Bound) → ((z : ℤ) → b ≡ most z → natAbs z ≤ B) → Small B b
-bound-small B.Bound.none h = free
-bound-small (most z) h = sized (h z refl)
-
 module _ {n : ℕ} {zone pattern : List ℤ} (r : CommonReady n zone pattern) where
   pub pattern-taking : Taking n zone (patternConstraints n (boundsIn pattern))
-  unfolding patternConstraints
   pattern-taking = record {
     B = r .B;
     ready = r .ready;
     fits = pattern-fits n (boundsIn pattern);
-    small = every-flatten (every-tabulate (suc n) 0 _ (λ i hi. every-tabulate (suc n) 0 _ (λ j hj. bound-small _ (r .small _ _))));
+    small = pattern-small n (boundsIn pattern) (r .small);
   }
 
   pub pattern-left : {zone′ : List ℤ} → Left (foldl (constrain (suc n)) (some (boundsIn zone)) (patternConstraints n (boundsIn pattern))) true zone′ → Ready n (r .B) zone′

@@ -1,16 +1,15 @@
 -- Numbers in memory: 2147483647 stands for none, any other number for itself.
-use Prim.Native.Nat.{ℕ, _+_, _≤_}
+use Prim.Native.Nat.{_≤_}
 use mathlib.Core.Path.{_≡_, refl, sym, ap, _∙_}
 use mathlib.Core.Bool.{Bool, true, false, cond}
-use lib.IntN.{ℤ, pos, natAbs, _+ℤ_, _-ℤ_}
+use lib.IntN.{ℤ, pos, natAbs}
 use mir.Syntax.{w32, w64}
 use mir.Val.{SFits, ofZ, toZ}
 use mir.ValLaws.{toZ-ofZ}
-use Rattle.ints.proofs.Integers.{ints, range, fits, add-ud, sub-ud, abs-ud, pos-ud}
+use Rattle.ints.proofs.Integers.{ints, range, fits, abs-ud, pos-ud}
 use Rattle.model.specs.Bound as B
-use Rattle.model.specs.Bound.{Bound, most, plus, sameZ}
+use Rattle.model.specs.Bound.{most, sameZ}
 use Rattle.model.proofs.Same.{sameZ-true, sameZ-refl}
-use Rattle.model.proofs.Size.{Small, free, sized}
 use Rattle.zones.specs.declared.Entry.the-variants.{Blank, Secs}
 use Rattle.zones.specs.Memory.{boundIn, timeIn}
 use Rattle.zones.specs.Inner.{bound, timeOf, entryIn, Widest, Largest, InMemory}
@@ -59,13 +58,3 @@ narrow z h = fits (omega (ints, abs-ud z))
 
 pub wide : (z : ℤ) → natAbs z ≤ Widest → SFits w64 z
 wide z h = fits (omega (ints, abs-ud z))
-
--- sums
-pub small-sum : {B C : ℕ} {b c : Bound} → Small B b → Small C c → Small (B + C) (plus b c)
-unfolding plus
-small-sum free k = free
-small-sum (sized h) free = free
-small-sum (sized {z} h) (sized {z = y} k) = sized {z = z +ℤ y} (omega (ints, add-ud z y, abs-ud z, abs-ud y, abs-ud (z +ℤ y)))
-
-pub minus-small : {B : ℕ} (x y : ℤ) → natAbs x ≤ B → natAbs y ≤ B → natAbs (x -ℤ y) ≤ B + B
-minus-small x y h k = omega (ints, abs-ud x, abs-ud y, abs-ud (x -ℤ y), sub-ud x y)

@@ -6,7 +6,6 @@ use mathlib.Core.List.{List, [], _∷_, _++_, map, map-append}
 use lib.IntN.{ℤ, pos, negℤ, natAbs}
 use lib.ListN.{length, getD, set, drop, length-append, length-map, List·getD-append, List·getD-map}
 use Rattle.ints.specs.declared.Seconds.{Seconds}
-use Rattle.ints.proofs.Integers.{ints, neg-ud, abs-ud}
 use Rattle.model.proofs.Stored.{padded-set}
 use Rattle.model.specs.Lists.{tabulate, padded}
 use Rattle.model.specs.Bound as B
@@ -16,22 +15,12 @@ use Rattle.model.specs.Network.{clocked}
 use Rattle.model.specs.Search.{tightest, above, below, leastOr, choices, pick}
 use Rattle.model.specs.Answers.{seconds, sevenTimes}
 use Rattle.model.proofs.Bounds.{tighter-either}
-use Rattle.model.proofs.Listed.{Every, done, both, every-append, every-map}
+use Rattle.model.proofs.Listed.{Every, done, both, every-append, every-map, at-getD}
 use Rattle.model.proofs.Tabulated.{tabulate-ext}
 use Rattle.model.proofs.Attained.{earliest, latest}
-use Rattle.model.proofs.Size.{Small, free, sized, small-mono}
+use Rattle.model.proofs.Size.{Small, free}
 use Rattle.zones.specs.Inner.{InMemory, values}
-use Rattle.zones.proofs.Numbers.{small-sum}
 use Rattle.zones.proofs.Toward.{from, from-next, from-end, from-first}
-
-pub neg-small : {B : ℕ} (z : ℤ) → natAbs z ≤ B → natAbs (negℤ z) ≤ B
-neg-small z h = omega (ints, neg-ud z, abs-ud z, abs-ud (negℤ z))
-
-pub least-small : {B : ℕ} {w u : Bound} → Small B w → Small B u → natAbs (leastOr w u) ≤ B
-unfolding leastOr
-least-small (sized {z} h) s = neg-small z h
-least-small free (sized h) = h
-least-small free free = omega arith
 
 pub clocked-at : (xs : List ℤ) (s : ℕ) → 1 ≤ s → clocked xs s ≡ getD xs (s - 1) (pos 0)
 unfolding clocked
@@ -45,9 +34,6 @@ early-term n d t x s = plus (entry (suc n) d s t) (most (negℤ (x s)))
 
 abbrev pub late-term : ℕ → Matrix → ℕ → (ℕ → ℤ) → ℕ → Bound
 late-term n d t x s = plus (entry (suc n) d t s) (most (x s))
-
-pub term-small : (t : ℕ) {b : Bound} (z : ℤ) → Small InMemory b → natAbs z ≤ t * InMemory → Small (suc t * InMemory) (plus b (most z))
-term-small t z h k = small-mono (omega arith) (small-sum {C = t * InMemory} h (sized {z = z} k))
 
 -- b is the tightest of the terms f s, .., f (t - 1)
 pub record Tightest (t : ℕ) (f : ℕ → Bound) (s : ℕ) (b : Bound) : Type 0 where
@@ -99,11 +85,6 @@ picking-start n d = record {
   small = done;
 }
 
-every-at : {P : ℤ → Type 0} {xs : List ℤ} (i : ℕ) → Every P xs → P (pos 0) → P (getD xs i (pos 0))
-every-at i done z = z
-every-at zero (both h hs) z = h
-every-at (suc i) (both h hs) z = every-at i hs z
-
 -- a time before t is that of the list
 clocked-seven : (ys : List ℤ) (s : ℕ) → s < suc (length ys) → clocked (values (sevenTimes ys)) s ≡ getD (pos 0 ∷ ys) s (pos 0)
 unfolding clocked
@@ -117,7 +98,7 @@ module _ {n : ℕ} {d : Matrix} {times : List Seconds} {t : ℕ} (w : Picking n 
   at-before s h = let c = w .count in rw (w .are) (clocked-seven (w .ys) s (omega arith))
 
   pub times-small : (s : ℕ) → s < t → natAbs (clocked (values times) s) ≤ t * InMemory
-  times-small s h = rw (at-before s h) (every-at s (both (omega arith) (w .small)) (omega arith))
+  times-small s h = rw (at-before s h) (at-getD (pos 0) (omega arith) (both (omega arith) (w .small)) s)
 
   -- the choice
   choice-is : leastOr (earliest (suc n) d t (clocked (values times))) (latest (suc n) d t (clocked (values times)))

@@ -6,10 +6,9 @@ use mathlib.Core.Path.{_≡_, sym, ap, _∙_}
 use lib.ListN.{length}
 use Rattle.model.specs.Bound.{Bound, most, plus, negative}
 use Rattle.model.specs.Matrix.{entry}
-use Rattle.model.proofs.Size.{small-mono}
+use Rattle.model.proofs.Size.{small-mono, small-sum}
 use Rattle.zones.specs.Memory.{boundsIn}
 use Rattle.zones.specs.Inner.{bound}
-use Rattle.zones.proofs.Numbers.{small-sum}
 use Rattle.zones.proofs.Fills.{Filled, rows-start}
 use Rattle.zones.proofs.ReadyZones.{zone-size}
 use Rattle.zones.proofs.Relaxed.{via, row-in, col-in, limit-in, none-left, row-ready, row-taken, all-taken}

@@ -7,11 +7,11 @@ use lib.IntN.{ℤ, natAbs, _-ℤ_}
 use Rattle.model.specs.Bound.{most, plus}
 use Rattle.model.specs.Matrix.{entry}
 use Rattle.model.specs.Search.{chosen, keeps}
-use Rattle.model.proofs.Size.{sized, small-mono}
+use Rattle.model.proofs.Size.{sized, small-mono, small-sum, minus-small}
 use Rattle.zones.specs.declared.Choice.{Choice}
 use Rattle.zones.specs.Memory.{boundsIn, timesIn}
 use Rattle.zones.specs.Inner.{bound, InMemory}
-use Rattle.zones.proofs.Numbers.{wide, small-sum, minus-small}
+use Rattle.zones.proofs.Numbers.{wide}
 use Rattle.zones.proofs.keep.Statement.{statement}
 use Rattle.zones.proofs.keep.Tie as tie
 

@@ -7,11 +7,11 @@ use lib.IntN.{natAbs, negℤ}
 use Rattle.model.specs.Bound.{Bound, most, plus}
 use Rattle.model.specs.Network.{clocked}
 use Rattle.model.specs.Search.{leastOr}
-use Rattle.model.proofs.Size.{Small, small-mono}
+use Rattle.model.proofs.Size.{Small, small-mono, term-small, neg-small, least-small}
 use Rattle.zones.specs.Memory.{boundsIn}
 use Rattle.zones.specs.Inner.{bound, values, InMemory, Widest}
 use Rattle.zones.proofs.Numbers.{wide}
-use Rattle.zones.proofs.Picked.{neg-small, least-small, early-term, late-term, term-small, Tightest, tightest-start, tightest-step, tightest-done}
+use Rattle.zones.proofs.Picked.{early-term, late-term, Tightest, tightest-start, tightest-step, tightest-done}
 use Rattle.zones.proofs.next_time.Statement.{statement}
 use Rattle.zones.proofs.next_time.Tie as tie
 

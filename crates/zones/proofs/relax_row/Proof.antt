@@ -7,10 +7,9 @@ use mathlib.Core.Path.{_≡_, ap, ap₂, _∙_}
 use lib.ListN.{length}
 use Rattle.model.specs.Bound.{Bound, plus, tighter}
 use Rattle.model.specs.Matrix.{entry}
-use Rattle.model.proofs.Size.{Small, small-mono}
+use Rattle.model.proofs.Size.{Small, small-mono, small-sum}
 use Rattle.zones.specs.Memory.{boundsIn}
 use Rattle.zones.specs.Inner.{bound, across, RowFilled, InMemory, Widest}
-use Rattle.zones.proofs.Numbers.{small-sum}
 use Rattle.zones.proofs.Places.{bounds-size}
 use Rattle.zones.proofs.Fills.{row-start, row-step}
 use Rattle.zones.proofs.relax_row.Statement.{statement}

@@ -1,0 +1,5 @@
+pub mod Writing
+pub mod Digits
+pub mod Parts
+pub mod Few
+pub mod LongInput

@@ -1,0 +1,50 @@
+-- Line by line: those of the first j cycles are put.
+use borrow.Author.Needs.{needs}
+use Prim.Native.Nat.{_+_, _*_, _-_, _≤_}
+use native.Mathlib.Omega.{arith}
+use mathlib.Core.Path.{_≡_}
+use mathlib.Core.List.{flatten}
+use Rattle.model.specs.Lists.{tabulate}
+use Rattle.report.specs.Text.{lines}
+use Rattle.report.specs.Puts.{Puts}
+use Rattle.report.proofs.Writing.{puts-nothing, puts-then}
+use Rattle.report.proofs.Parts.{lines-next}
+use Rattle.report.proofs.put_lines.Statement.{statement}
+use Rattle.report.proofs.put_lines.Tie as tie
+
+abbrev Inv-loop : tie.InvT-loop
+Inv-loop out₀ at case start count n next₀ j₀ out next j = (j ≤ count) × Puts out₀ at (lines case start j) next out × (next ≤ at + 175 * j)
+
+abbrev μ-loop : tie.MeasureT-loop
+μ-loop out₀ at case start count n next₀ j₀ out next j = count - j
+
+loop-holds : tie.Need-loop-holds Inv-loop μ-loop
+unfolding lines flatten tabulate
+loop-holds c = (omega arith, puts-nothing, omega arith)
+
+run-requires : tie.Need-run-requires Inv-loop μ-loop
+run-requires c κs = search needs
+
+put-line-requires : tie.Need-put-line-requires Inv-loop μ-loop
+put-line-requires c κs = omega arith
+
+add-j : tie.Need-add-j Inv-loop μ-loop
+add-j c = omega arith
+
+loop-less : tie.Need-loop-less Inv-loop μ-loop
+loop-less c = omega arith
+
+loop-again : tie.Need-loop-again Inv-loop μ-loop
+loop-again c =
+    let r = c .before .before .before in
+    let l = r .before .before in
+    let a = l .before .args in
+    (omega arith, rw (lines-next (a .case) (a .start) (l .loop .j)) (puts-then (l .loop .inv .1) (rw (r .run .ensures) at (c .put-line .ensures .0))), omega arith)
+
+returns : tie.Need-returns Inv-loop μ-loop
+returns c =
+    let e : c .before .loop .j ≡ c .before .before .args .count = omega arith in
+    (rw e at (c .before .loop .inv .1), omega arith)
+
+pub put-lines-spec : {M : Type 1} → statement M
+put-lines-spec = tie.close (tie.spec Inv-loop μ-loop loop-holds run-requires put-line-requires add-j loop-less loop-again returns)

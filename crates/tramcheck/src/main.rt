@@ -1,0 +1,16 @@
+// Reads one packed case from standard input and prints the verdict on it.
+mod input;
+mod output;
+mod waiting;
+
+fn main() {
+    let mut bytes = [0u8; input::MOST];
+    let case = input::read_case(&mut bytes);
+    if case.failed {
+        return;
+    }
+    let size = case.size;
+    let mut text = [0u8; report::TEXT];
+    let length = report::report(&bytes[..size], &mut text);
+    output::print(&text[..length]);
+}

@@ -1,0 +1,63 @@
+/* Verdicts on tram networks: a static library, proved in Rattle. Link libembed.a.
+ *
+ * The functions ask nothing of the numbers that they are given: any input that is not within the limits is refused. As in any C interface, a
+ * pointer must point to as many elements as its parameter says, and what a function writes must not overlap anything else that it is lent.
+ * A length may be 0, and then its pointer is not read. No function keeps anything between calls or allocates; all return.
+ *
+ * Each function returns what the verdict is and sets
+ *   *fault    the fault's number, 1 to 13, where it is TRAMCHECK_REFUSED, else 0;
+ *   *number   k for TRAMCHECK_REACHED, N for TRAMCHECK_CLEAR, 0 for TRAMCHECK_NEVER, what the fault returns for TRAMCHECK_REFUSED:
+ *             its place, the cycle of 11 (table full) and 12 (bound too large), the departure of 13, or 0;
+ *   the seven times  the start that reaches the target, departures 1 to n first; 0 beyond n and for every other verdict.
+ */
+#ifndef TRAMCHECK_H
+#define TRAMCHECK_H
+
+#include <stddef.h>
+#include <stdint.h>
+
+#ifdef __cplusplus
+extern "C" {
+#endif
+
+enum {
+    TRAMCHECK_REFUSED = 0,
+    TRAMCHECK_REACHED = 1,
+    TRAMCHECK_CLEAR = 2,
+    TRAMCHECK_NEVER = 3
+};
+
+/* The most departures. */
+#define TRAMCHECK_DEPARTURES 7
+
+/* The entries of an unpacked case. For n departures, entry e of the table (row by row, n * n of them) is at e, entry e of the start pattern (the
+ * pairs i, j from 0 to n, i not j, by i, then by j, n * (n + 1) of them) at TRAMCHECK_START + e, of the target pattern at TRAMCHECK_TARGET + e.
+ * An entry counts where its number in present is not 0; all others are ignored. */
+#define TRAMCHECK_ENTRIES 161
+#define TRAMCHECK_START 49
+#define TRAMCHECK_TARGET 105
+
+/* A workspace that is long enough for z zones, whatever the case. Shorter is enough for n below 7: 2 * z * (n + 1) * (n + 1). */
+#define TRAMCHECK_WORKSPACE(z) ((size_t)2 * (z) * 64)
+
+/* The verdict on a packed case, with a table of capacity zones, 1 to 4,096. The workspace is left as it was by faults 1 to 10, and all zero
+ * otherwise, whatever its length. Places are bit numbers. */
+uint32_t tramcheck_verdict(const uint8_t *bytes, size_t length, size_t capacity, int32_t *work, size_t work_length, size_t *fault,
+                           size_t *number, int64_t start[TRAMCHECK_DEPARTURES]);
+
+/* The same on an unpacked case. Places are entry numbers: of the table, or of the start pattern followed by the target pattern. */
+uint32_t tramcheck_verdict_unpacked(size_t n, size_t horizon, const uint8_t present[TRAMCHECK_ENTRIES],
+                                    const int64_t values[TRAMCHECK_ENTRIES], size_t capacity, int32_t *work, size_t work_length,
+                                    size_t *fault, size_t *number, int64_t start[TRAMCHECK_DEPARTURES]);
+
+/* A run: the times of a cycle from 0 to 64, from start times on. Returns TRAMCHECK_REACHED, with the cycle in *number and its times in times, or
+ * TRAMCHECK_REFUSED. Patterns are ignored. */
+uint32_t tramcheck_run(size_t n, const uint8_t present[TRAMCHECK_ENTRIES], const int64_t values[TRAMCHECK_ENTRIES],
+                       const int64_t start[TRAMCHECK_DEPARTURES], size_t cycle, size_t *fault, size_t *number,
+                       int64_t times[TRAMCHECK_DEPARTURES]);
+
+#ifdef __cplusplus
+}
+#endif
+
+#endif
