@@ -2,11 +2,12 @@
  *
  * The functions ask nothing of the numbers that they are given: any input that is not within the limits is refused. As in any C interface, a
  * pointer must point to as many elements as its parameter says, and what a function writes must not overlap anything else that it is lent.
- * A length may be 0, and then its pointer is not read. No function keeps anything between calls or allocates; all return.
+ * A length may be 0, and then its pointer is not read. No function keeps anything between calls or allocates; all return. A call takes less than
+ * 128 KiB of the stack.
  *
  * Each function returns what the verdict is and sets
  *   *fault    the fault's number, 1 to 13, where it is TRAMCHECK_REFUSED, else 0;
- *   *number   k for TRAMCHECK_REACHED, N for TRAMCHECK_CLEAR, 0 for TRAMCHECK_NEVER, what the fault returns for TRAMCHECK_REFUSED:
+ *   *value    k for TRAMCHECK_REACHED, N for TRAMCHECK_CLEAR, 0 for TRAMCHECK_NEVER, what the fault returns for TRAMCHECK_REFUSED:
  *             its place, the cycle of 11 (table full) and 12 (bound too large), the departure of 13, or 0;
  *   the seven times  the start that reaches the target, departures 1 to n first; 0 beyond n and for every other verdict.
  */
@@ -43,17 +44,17 @@ enum {
 /* The verdict on a packed case, with a table of capacity zones, 1 to 4,096. The workspace is left as it was by faults 1 to 10, and all zero
  * otherwise, whatever its length. Places are bit numbers. */
 uint32_t tramcheck_verdict(const uint8_t *bytes, size_t length, size_t capacity, int32_t *work, size_t work_length, size_t *fault,
-                           size_t *number, int64_t start[TRAMCHECK_DEPARTURES]);
+                           size_t *value, int64_t start[TRAMCHECK_DEPARTURES]);
 
 /* The same on an unpacked case. Places are entry numbers: of the table, or of the start pattern followed by the target pattern. */
 uint32_t tramcheck_verdict_unpacked(size_t n, size_t horizon, const uint8_t present[TRAMCHECK_ENTRIES],
                                     const int64_t values[TRAMCHECK_ENTRIES], size_t capacity, int32_t *work, size_t work_length,
-                                    size_t *fault, size_t *number, int64_t start[TRAMCHECK_DEPARTURES]);
+                                    size_t *fault, size_t *value, int64_t start[TRAMCHECK_DEPARTURES]);
 
-/* A run: the times of a cycle from 0 to 64, from start times on. Returns TRAMCHECK_REACHED, with the cycle in *number and its times in times, or
+/* A run: the times of a cycle from 0 to 64, from start times on. Returns TRAMCHECK_REACHED, with the cycle in *value and its times in times, or
  * TRAMCHECK_REFUSED. Patterns are ignored. */
 uint32_t tramcheck_run(size_t n, const uint8_t present[TRAMCHECK_ENTRIES], const int64_t values[TRAMCHECK_ENTRIES],
-                       const int64_t start[TRAMCHECK_DEPARTURES], size_t cycle, size_t *fault, size_t *number,
+                       const int64_t start[TRAMCHECK_DEPARTURES], size_t cycle, size_t *fault, size_t *value,
                        int64_t times[TRAMCHECK_DEPARTURES]);
 
 #ifdef __cplusplus

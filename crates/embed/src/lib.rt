@@ -56,7 +56,7 @@ fn fault_of(verdict: Verdict) -> usize
     }
 }
 
-fn value(verdict: Verdict) -> usize
+fn value_of(verdict: Verdict) -> usize
     ensures { λ r. ⌜ r ≡ Answers.value verdict ⌝ }
 {
     match verdict {
@@ -91,13 +91,13 @@ fn times_in(plain: [i64; DEPARTURES]) -> [Seconds; DEPARTURES]
 }
 
 // Hands an answer back.
-fn tell(answer: Answer, fault: &mut usize, number: &mut usize, times: &mut [i64; DEPARTURES]) -> u32
-    ensures { λ r. ⌜ Told answer r (now (fault .exit)) (now (number .exit)) (now (times .exit)) ⌝ }
+fn tell(answer: Answer, fault: &mut usize, value: &mut usize, times: &mut [i64; DEPARTURES]) -> u32
+    ensures { λ r. ⌜ Told answer r (now (fault .exit)) (now (value .exit)) (now (times .exit)) ⌝ }
 {
     let verdict = answer.verdict;
     let start = answer.start;
     *fault = fault_of(verdict);
-    *number = value(verdict);
+    *value = value_of(verdict);
     *times = plain_times(start);
     kind(verdict)
 }
@@ -166,14 +166,14 @@ pub extern "C" fn tramcheck_verdict(
     capacity: usize,
     work: &mut [i32],
     fault: &mut usize,
-    number: &mut usize,
+    value: &mut usize,
     start: &mut [i64; DEPARTURES],
 ) -> u32
-    ensures { λ r. ⌜ Told (answerPacked (now (bytes .entry)) capacity (length (now (work .entry)))) r (now (fault .exit)) (now (number .exit)) (now (start .exit)) ⌝ }
+    ensures { λ r. ⌜ Told (answerPacked (now (bytes .entry)) capacity (length (now (work .entry)))) r (now (fault .exit)) (now (value .exit)) (now (start .exit)) ⌝ }
     ensures { λ _. ⌜ now (work .exit) ≡ workspaceAfterPacked (now (bytes .entry)) capacity (now (work .entry)) ⌝ }
 {
     let answer = verdict::verdict_packed(bytes, capacity, work);
-    tell(answer, fault, number, start)
+    tell(answer, fault, value, start)
 }
 
 // The verdict on an unpacked case.
@@ -186,15 +186,15 @@ pub extern "C" fn tramcheck_verdict_unpacked(
     capacity: usize,
     work: &mut [i32],
     fault: &mut usize,
-    number: &mut usize,
+    value: &mut usize,
     start: &mut [i64; DEPARTURES],
 ) -> u32
-    ensures { λ r. ⌜ Told (answer (caseIn n horizon (now (present .entry)) (now (values .entry))) capacity (length (now (work .entry)))) r (now (fault .exit)) (now (number .exit)) (now (start .exit)) ⌝ }
+    ensures { λ r. ⌜ Told (answer (caseIn n horizon (now (present .entry)) (now (values .entry))) capacity (length (now (work .entry)))) r (now (fault .exit)) (now (value .exit)) (now (start .exit)) ⌝ }
     ensures { λ _. ⌜ now (work .exit) ≡ workspaceAfter (caseIn n horizon (now (present .entry)) (now (values .entry))) capacity (now (work .entry)) ⌝ }
 {
     let case = case_in(n, horizon, present, values);
     let answer = verdict::verdict(case, capacity, work);
-    tell(answer, fault, number, start)
+    tell(answer, fault, value, start)
 }
 
 // The times of a cycle of an unpacked case, from start times on.
@@ -206,10 +206,10 @@ pub extern "C" fn tramcheck_run(
     start: &[i64; DEPARTURES],
     cycle: usize,
     fault: &mut usize,
-    number: &mut usize,
+    value: &mut usize,
     times: &mut [i64; DEPARTURES],
 ) -> u32
-    ensures { λ r. ⌜ Told (runAnswer (run (caseIn n 0 (now (present .entry)) (now (values .entry))) (timesIn (now (start .entry))) cycle) cycle) r (now (fault .exit)) (now (number .exit)) (now (times .exit)) ⌝ }
+    ensures { λ r. ⌜ Told (runAnswer (run (caseIn n 0 (now (present .entry)) (now (values .entry))) (timesIn (now (start .entry))) cycle) cycle) r (now (fault .exit)) (now (value .exit)) (now (times .exit)) ⌝ }
 {
     let case = case_in(n, 0, present, values);
     let from = times_in(*start);
@@ -217,5 +217,5 @@ pub extern "C" fn tramcheck_run(
     let judged = run.judged;
     let start = run.times;
     let verdict = run_verdict(judged, Cycle(cycle));
-    tell(Answer { verdict, start }, fault, number, times)
+    tell(Answer { verdict, start }, fault, value, times)
 }

@@ -3,3 +3,4 @@ pub mod Digits
 pub mod Parts
 pub mod Few
 pub mod LongInput
+pub mod Shown

@@ -1,0 +1,232 @@
+// Calls the library on a case, unpacked and packed, and writes a line.
+ghost use Prim.Native.Nat.{_≤_};
+use crate::case_text;
+use crate::cases;
+use crate::packing;
+use crate::packing::Packed;
+use crate::packing::SIZE;
+use crate::text;
+use model::Answer;
+use model::Case;
+use model::Verdict;
+
+// The longest workspace lent: 2 * 4096 * 4 numbers and some more.
+const ROOM: usize = 33000;
+
+// What the workspace is filled with before a call.
+const MARK: i32 = 7;
+
+// The workspace after a call.
+const ZERO: u8 = 0;
+
+const UNCHANGED: u8 = 1;
+
+const CHANGED: u8 = 2;
+
+const EMPTY: u8 = 3;
+
+// What a line says of a call.
+struct Outcome {
+    answer: Answer,
+    work: u8,
+}
+
+fn state_of(work: &[i32]) -> u8 {
+    let mut zero = true;
+    let mut unchanged = true;
+    for k in 0..work.len() {
+        let number = work[k];
+        zero = zero & (number == 0);
+        unchanged = unchanged & (number == MARK);
+    }
+    if work.len() == 0 {
+        EMPTY
+    } else if zero {
+        ZERO
+    } else if unchanged {
+        UNCHANGED
+    } else {
+        CHANGED
+    }
+}
+
+fn least(a: usize, b: usize) -> usize
+    ensures { λ r. ⌜ r ≤ b ⌝ }
+{
+    if a < b { a } else { b }
+}
+
+fn on_case(case: Case, capacity: usize, work: &mut [i32]) -> Outcome {
+    let answer = verdict::verdict(case, capacity, work);
+    let state = state_of(work);
+    Outcome {
+        answer,
+        work: state,
+    }
+}
+
+fn on_bytes(bytes: &[u8], capacity: usize, work: &mut [i32]) -> Outcome {
+    let answer = verdict::verdict_packed(bytes, capacity, work);
+    let state = state_of(work);
+    Outcome {
+        answer,
+        work: state,
+    }
+}
+
+// The first numbers of the workspace are lent.
+fn lent_to_case(case: Case, capacity: usize, work: &mut [i32], room: usize) -> Outcome {
+    let size = least(room, work.len());
+    on_case(case, capacity, &mut work[..size])
+}
+
+// The first bytes are the case, and the first numbers of the workspace are lent.
+fn lent_to_bytes(
+    bytes: &[u8],
+    length: usize,
+    capacity: usize,
+    work: &mut [i32],
+    room: usize,
+) -> Outcome {
+    let end = least(length, bytes.len());
+    let size = least(room, work.len());
+    on_bytes(&bytes[..end], capacity, &mut work[..size])
+}
+
+fn plain(case: Case, capacity: usize, room: usize) -> Outcome {
+    let mut work = [MARK; ROOM];
+    lent_to_case(case, capacity, &mut work, room)
+}
+
+fn packed_form(packed: Packed, capacity: usize, room: usize) -> Outcome {
+    let mut work = [MARK; ROOM];
+    let bytes = packed.bytes;
+    lent_to_bytes(&bytes, packed.length, capacity, &mut work, room)
+}
+
+fn write_verdict(verdict: Verdict) {
+    match verdict {
+        Verdict::Reached(k) => {
+            io::write_all(1, b"reached ");
+            text::number(k.0);
+        }
+        Verdict::Clear(horizon) => {
+            io::write_all(1, b"clear ");
+            text::number(horizon.0);
+        }
+        Verdict::Never => {
+            io::write_all(1, b"never");
+        }
+        Verdict::Refused(fault) => text::refused(fault),
+    }
+}
+
+fn write_work(work: u8) {
+    if work == ZERO {
+        io::write_all(1, b", workspace zero");
+    } else if work == UNCHANGED {
+        io::write_all(1, b", workspace unchanged");
+    } else if work == EMPTY {
+        io::write_all(1, b", workspace empty");
+    } else {
+        io::write_all(1, b", workspace changed");
+    }
+}
+
+fn write_outcome(outcome: Outcome) {
+    let answer = outcome.answer;
+    let verdict = answer.verdict;
+    let start = answer.start;
+    write_verdict(verdict);
+    io::write_all(1, b", start");
+    text::times(start);
+    write_work(outcome.work);
+}
+
+// A number for each kind of verdict: a fault's own, and others for those that are no fault.
+fn kind(verdict: Verdict) -> u8 {
+    match verdict {
+        Verdict::Reached(_) => 101,
+        Verdict::Clear(_) => 102,
+        Verdict::Never => 103,
+        Verdict::Refused(fault) => fault.number(),
+    }
+}
+
+// The number beside a verdict.
+fn value(verdict: Verdict) -> usize {
+    match verdict {
+        Verdict::Reached(k) => k.0,
+        Verdict::Clear(horizon) => horizon.0,
+        Verdict::Never => 0,
+        Verdict::Refused(fault) => fault.returned(),
+    }
+}
+
+fn same(a: Outcome, b: Outcome) -> bool {
+    let first = a.answer;
+    let second = b.answer;
+    let u = first.verdict;
+    let v = second.verdict;
+    let x = first.start;
+    let y = second.start;
+    kind(u) == kind(v) && value(u) == value(v) && text::same_times(x, y) && a.work == b.work
+}
+
+// The rest of a line for a packed case.
+pub fn packed_answer(packed: Packed, capacity: usize, room: usize) {
+    io::write_all(1, b": ");
+    write_outcome(packed_form(packed, capacity, room));
+    io::write_all(1, b"\n");
+}
+
+// The rest of a line for a case in both forms.
+pub fn both_answers(case: Case, capacity: usize, room: usize) {
+    io::write_all(1, b": ");
+    let unpacked = plain(case, capacity, room);
+    write_outcome(unpacked);
+    let packed = packed_form(packing::pack(case), capacity, room);
+    if same(unpacked, packed) {
+        io::write_all(1, b"; packed the same\n");
+    } else {
+        io::write_all(1, b"; packed ");
+        write_outcome(packed);
+        io::write_all(1, b"\n");
+    }
+}
+
+// A line for a case in both forms.
+pub fn line(case: Case, capacity: usize, room: usize) {
+    case_text::call(case, capacity, room);
+    both_answers(case, capacity, room);
+}
+
+// 2 * 128 * (n + 1) * (n + 1), the numbers that Z = 128 needs.
+pub fn exact(n: usize) -> usize {
+    if n > 7 {
+        return 1024;
+    }
+    256 * cases::product(n + 1, n + 1)
+}
+
+// A line for a case in both forms, with Z = 128 and as long a workspace as needed.
+pub fn example(case: Case) {
+    line(case, 128, exact(case.n));
+}
+
+// The same with a note on what the case holds besides.
+pub fn noted(note: &[u8], case: Case) {
+    let room = exact(case.n);
+    case_text::call(case, 128, room);
+    io::write_all(1, note);
+    both_answers(case, 128, room);
+}
+
+// A line for an unpacked case that has no packed form.
+pub fn unpacked_line(case: Case) {
+    let room = exact(case.n);
+    case_text::call(case, 128, room);
+    io::write_all(1, b", unpacked: ");
+    write_outcome(plain(case, 128, room));
+    io::write_all(1, b"\n");
+}

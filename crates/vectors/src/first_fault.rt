@@ -1,0 +1,134 @@
+// Two faults in one call: the first is named. Values that no one judges.
+use crate::answers::example;
+use crate::answers::line;
+use crate::answers::noted;
+use crate::answers::packed_answer;
+use crate::answers::unpacked_line;
+use crate::cases;
+use crate::cases::BLANK;
+use crate::cases::any;
+use crate::cases::one;
+use crate::cases::two;
+use crate::damage;
+use crate::damage::cut_line;
+use crate::damage::marked_line;
+use crate::packing::Packed;
+
+fn numbers(n: usize, horizon: usize, time: i64) {
+    unpacked_line(cases::case_of(n, horizon, cases::table1(time), any(), any()));
+}
+
+// 2 and 3; 3 and 4; 3 and 5.
+fn before_times() {
+    numbers(0, 0, 0);
+    numbers(8, 65, 0);
+    numbers(1, 65, 86401);
+    numbers(1, 0, BLANK);
+}
+
+fn table(a: i64, b: i64, c: i64, d: i64) {
+    example(cases::unbounded(3, cases::table2(a, b, c, d)));
+}
+
+// 4 and 5 in both orders; 4 twice; 5 twice; 5 and 6.
+fn in_times() {
+    table(86401, 5, BLANK, BLANK);
+    table(BLANK, 86401, BLANK, BLANK);
+    table(BLANK, BLANK, 86401, 3);
+    table(2, 5, 86401, -86401);
+    table(BLANK, BLANK, BLANK, BLANK);
+    let table = cases::table2(2, 5, BLANK, BLANK);
+    example(two(3, table, cases::d_at_most(1000001), any()));
+}
+
+fn bounds(d: i64, start: i32, target: i32, capacity: usize, room: usize) {
+    let table = cases::table2(2, 5, 3, d);
+    line(
+        two(3, table, cases::d_at_most(start), cases::d_at_most(target)),
+        capacity,
+        room,
+    );
+}
+
+// 4 and 6; 6 in start and in target; 6 and 9; 6 and 10; 4 and 9; 9 and 10.
+fn after_times() {
+    bounds(86401, 1000001, 0, 128, 2304);
+    bounds(3, 1000001, 1000001, 128, 2304);
+    bounds(3, 0, 1000001, 0, 2304);
+    bounds(3, 0, 1000001, 128, 2303);
+    bounds(86401, 0, 0, 4097, 2304);
+    bounds(3, 0, 0, 0, 0);
+    bounds(3, 0, 0, 4097, 2304);
+}
+
+// R, any to any, N 3, in packed form.
+fn packed_r(capacity: usize, room: usize) -> Packed {
+    damage::packed(cases::unbounded(3, cases::r()), capacity, room)
+}
+
+// 7 twice, and 7 and 8.
+fn in_fill() {
+    let twice = damage::marked(damage::marked(packed_r(128, 2304), 103), 98);
+    packed_answer(twice, 128, 2304);
+    let both = damage::longer(damage::marked(packed_r(128, 2304), 103), 255);
+    packed_answer(both, 128, 2304);
+}
+
+// 8 and 9; 7 and 10; 1 and 9.
+fn before_call() {
+    let longer = damage::longer(packed_r(0, 2304), 0);
+    packed_answer(longer, 0, 2304);
+    let marked = damage::marked(packed_r(128, 0), 103);
+    packed_answer(marked, 128, 0);
+    let short = damage::cut(packed_r(0, 0), 12);
+    packed_answer(short, 0, 0);
+}
+
+fn cut(a: i64, b: i64, c: i64, d: i64, length: usize) {
+    cut_line(cases::unbounded(3, cases::table2(a, b, c, d)), length);
+}
+
+// 1 and 4, 1 and 5: a time is judged where the case ends after it, not within it. 6 and 7.
+fn in_packed() {
+    cut(86401, 5, 3, 3, 4);
+    cut(86401, 5, 3, 3, 3);
+    cut(BLANK, BLANK, 3, 3, 2);
+    cut(2, BLANK, BLANK, BLANK, 4);
+    marked_line(two(3, cases::r(), any(), cases::d_at_most(1000001)), 119);
+}
+
+// A value marked absent is ignored.
+fn absent() {
+    let table = cases::entry(cases::r(), 0, cases::absent(86401));
+    noted(b", the blank holds 86401", cases::unbounded(3, table));
+    let none = cases::changed(any(), 1, cases::absent(1000001));
+    noted(
+        b", absent bounds hold 1000001",
+        one(5, cases::o(), none, none),
+    );
+}
+
+// Values beyond n are ignored.
+fn beyond() {
+    let table = cases::entry(cases::o(), 1, cases::slot(86401));
+    let start = cases::changed(cases::at_time(0), 2, cases::slot(1000001));
+    let target = cases::changed(cases::at_time(5), 55, cases::slot(-1000001));
+    noted(
+        b", 86401 and 1000001 beyond n",
+        one(5, table, start, target),
+    );
+}
+
+pub fn show() {
+    io::write_all(1, b"\nTwo faults, the first is named\n");
+    before_times();
+    in_times();
+    after_times();
+    io::write_all(1, b"\nTwo faults in packed cases\n");
+    in_fill();
+    before_call();
+    in_packed();
+    io::write_all(1, b"\nValues that are ignored\n");
+    absent();
+    beyond();
+}

@@ -1,0 +1,50 @@
+// Writes numbers, times and faults.
+use crate::packing;
+use ints::Seconds;
+use model::DEPARTURES;
+use model::Fault;
+
+pub fn number(n: usize) {
+    io::print_decimal(1, n as u64);
+}
+
+pub fn signed(time: Seconds) {
+    if time.0 < 0 {
+        io::write_all(1, b"-");
+    }
+    io::print_decimal(1, packing::magnitude(time.0));
+}
+
+// A number with its sign changed.
+pub fn opposite(time: Seconds) {
+    if time.0 > 0 {
+        io::write_all(1, b"-");
+    }
+    io::print_decimal(1, packing::magnitude(time.0));
+}
+
+// All seven times.
+pub fn times(values: [Seconds; DEPARTURES]) {
+    for i in 0..DEPARTURES {
+        let time = values[i];
+        io::write_all(1, b" ");
+        signed(time);
+    }
+}
+
+pub fn same_times(a: [Seconds; DEPARTURES], b: [Seconds; DEPARTURES]) -> bool {
+    let mut same = true;
+    for i in 0..DEPARTURES {
+        let x = a[i];
+        let y = b[i];
+        same = same & (x.0 == y.0);
+    }
+    same
+}
+
+pub fn refused(fault: Fault) {
+    io::write_all(1, b"refused ");
+    number(fault.number() as usize);
+    io::write_all(1, b" ");
+    number(fault.returned());
+}

@@ -1,0 +1,40 @@
+// Runs: the times of a cycle, from given start times.
+use crate::case_text;
+use crate::text;
+use ints::Cycle;
+use ints::Seconds;
+use model::Case;
+use model::DEPARTURES;
+use model::Judged;
+
+// Two start times; the others are 0.
+pub fn from2(a: i64, b: i64) -> [Seconds; DEPARTURES] {
+    let mut start = [Seconds(0); DEPARTURES];
+    start[0] = Seconds(a);
+    start[1] = Seconds(b);
+    start
+}
+
+fn refusal(judged: Judged) {
+    if let Judged::Refused(fault) = judged {
+        text::refused(fault);
+        io::write_all(1, b", ");
+    }
+}
+
+// A line for a run.
+pub fn run_line(case: Case, start: [Seconds; DEPARTURES], cycle: usize) {
+    case_text::table(case);
+    io::write_all(1, b", run from");
+    text::times(start);
+    io::write_all(1, b", cycle ");
+    text::number(cycle);
+    io::write_all(1, b": ");
+    let run = runs::run(case, start, Cycle(cycle));
+    let judged = run.judged;
+    let times = run.times;
+    refusal(judged);
+    io::write_all(1, b"times");
+    text::times(times);
+    io::write_all(1, b"\n");
+}

@@ -1,0 +1,201 @@
+//! The archive's three functions behind safe ones. A product that embeds the
+//! archive can copy this file.
+
+use crate::case::{Case, Entries, Times};
+
+/// A fault's number, 1 to 13, and what is returned with it.
+#[derive(Clone, Copy, Debug, PartialEq, Eq)]
+pub struct Fault {
+    pub number: usize,
+    pub returned: usize,
+}
+
+/// What was found out about a case.
+#[derive(Clone, Copy, Debug, PartialEq, Eq)]
+pub enum Verdict {
+    Refused(Fault),
+    Reached { cycle: usize },
+    Clear { horizon: usize },
+    Never,
+}
+
+/// A verdict and the start handed back, which is 0 unless reached.
+#[derive(Clone, Copy, Debug, PartialEq, Eq)]
+pub struct Answer {
+    pub verdict: Verdict,
+    pub start: Times,
+}
+
+/// A run's fault, if any, and the times of its cycle, 0 if refused.
+#[derive(Clone, Copy, Debug, PartialEq, Eq)]
+pub struct Run {
+    pub judged: Result<(), Fault>,
+    pub times: Times,
+}
+
+/// Numbers that stand for no outcome; the archive never returns them.
+#[derive(Clone, Copy, Debug, PartialEq, Eq)]
+pub struct Unknown {
+    pub kind: u32,
+    pub fault: usize,
+    pub value: usize,
+}
+
+extern "C" {
+    fn tramcheck_verdict(
+        bytes: *const u8,
+        length: usize,
+        capacity: usize,
+        work: *mut i32,
+        work_length: usize,
+        fault: *mut usize,
+        value: *mut usize,
+        start: *mut i64,
+    ) -> u32;
+    fn tramcheck_verdict_unpacked(
+        n: usize,
+        horizon: usize,
+        present: *const u8,
+        values: *const i64,
+        capacity: usize,
+        work: *mut i32,
+        work_length: usize,
+        fault: *mut usize,
+        value: *mut usize,
+        start: *mut i64,
+    ) -> u32;
+    fn tramcheck_run(
+        n: usize,
+        present: *const u8,
+        values: *const i64,
+        start: *const i64,
+        cycle: usize,
+        fault: *mut usize,
+        value: *mut usize,
+        times: *mut i64,
+    ) -> u32;
+}
+
+/// Where the archive writes its results. Every call writes all of them; the
+/// first contents are numbers that no call may leave behind.
+struct Results {
+    fault: usize,
+    value: usize,
+    times: Times,
+}
+
+impl Results {
+    fn new() -> Results {
+        Results {
+            fault: usize::MAX,
+            value: usize::MAX,
+            times: [i64::MIN; 7],
+        }
+    }
+
+    /// The verdict that the returned kind and the numbers stand for.
+    fn answer(&self, kind: u32) -> Result<Answer, Unknown> {
+        let verdict = match (kind, self.fault, self.value) {
+            (0, number @ 1..=12, returned) => Verdict::Refused(Fault { number, returned }),
+            (1, 0, cycle) => Verdict::Reached { cycle },
+            (2, 0, horizon) => Verdict::Clear { horizon },
+            (3, 0, 0) => Verdict::Never,
+            (kind, fault, value) => return Err(Unknown { kind, fault, value }),
+        };
+        let start = self.times;
+        Ok(Answer { verdict, start })
+    }
+
+    /// The same for a run, whose cycle is the value where it is accepted.
+    fn run(&self, kind: u32, cycle: usize) -> Result<Run, Unknown> {
+        let judged = match (kind, self.fault, self.value) {
+            (0, number @ (2..=5 | 13), returned) => Err(Fault { number, returned }),
+            (1, 0, reached) if reached == cycle => Ok(()),
+            (kind, fault, value) => return Err(Unknown { kind, fault, value }),
+        };
+        let times = self.times;
+        Ok(Run { judged, times })
+    }
+}
+
+/// The verdict on a packed case, with room for `capacity` zones. `work` must
+/// hold 2 * capacity * (n + 1) * (n + 1) numbers; more is allowed.
+pub fn verdict(bytes: &[u8], capacity: usize, work: &mut [i32]) -> Result<Answer, Unknown> {
+    let mut results = Results::new();
+    // Each pointer comes from a slice, an array or a field that lives to the
+    // end of the call, and each length is that of its slice.
+    let kind = unsafe {
+        tramcheck_verdict(
+            bytes.as_ptr(),
+            bytes.len(),
+            capacity,
+            work.as_mut_ptr(),
+            work.len(),
+            &mut results.fault,
+            &mut results.value,
+            results.times.as_mut_ptr(),
+        )
+    };
+    results.answer(kind)
+}
+
+/// The verdict on an unpacked case.
+pub fn verdict_unpacked(case: &Case, capacity: usize, work: &mut [i32]) -> Result<Answer, Unknown> {
+    verdict_entries(case.n, case.horizon, &case.entries(), capacity, work)
+}
+
+/// The verdict on an unpacked case in the layout that the archive reads.
+pub fn verdict_entries(
+    n: usize,
+    horizon: usize,
+    entries: &Entries,
+    capacity: usize,
+    work: &mut [i32],
+) -> Result<Answer, Unknown> {
+    let mut results = Results::new();
+    // The pointers are good as in `verdict`; both arrays have 161 places.
+    let kind = unsafe {
+        tramcheck_verdict_unpacked(
+            n,
+            horizon,
+            entries.present.as_ptr(),
+            entries.values.as_ptr(),
+            capacity,
+            work.as_mut_ptr(),
+            work.len(),
+            &mut results.fault,
+            &mut results.value,
+            results.times.as_mut_ptr(),
+        )
+    };
+    results.answer(kind)
+}
+
+/// The times of cycle `cycle` from the start times `start`.
+pub fn run(case: &Case, start: &Times, cycle: usize) -> Result<Run, Unknown> {
+    run_entries(case.n, &case.entries(), start, cycle)
+}
+
+/// The same for a case in the layout that the archive reads.
+pub fn run_entries(
+    n: usize,
+    entries: &Entries,
+    start: &Times,
+    cycle: usize,
+) -> Result<Run, Unknown> {
+    let mut results = Results::new();
+    // The pointers are good as in `verdict`; both lists of times have 7.
+    let kind = unsafe {
+        tramcheck_run(
+            n,
+            entries.present.as_ptr(),
+            entries.values.as_ptr(),
+            start.as_ptr(),
+            cycle,
+            &mut results.fault,
+            &mut results.value,
+            results.times.as_mut_ptr(),
+        )
+    };
+    results.run(kind, cycle)
+}

@@ -1,0 +1,139 @@
+//! What several tests do alike: what should come out of a call, lending a
+//! workspace and looking at it afterwards, and naming a case that failed.
+
+use crate::archive::{Answer, Fault, Verdict};
+use crate::case::{Case, Entries, ENTRIES};
+use crate::faults;
+use crate::random::Random;
+use crate::selections::search;
+
+/// The answer that refuses with a fault.
+pub fn refused(fault: Fault) -> Answer {
+    Answer {
+        verdict: Verdict::Refused(fault),
+        start: [0; 7],
+    }
+}
+
+/// The number of the fault, 0 without one.
+pub fn fault_number(answer: &Answer) -> usize {
+    match answer.verdict {
+        Verdict::Refused(fault) => fault.number,
+        _ => 0,
+    }
+}
+
+/// What a call on a case without a fault of its own must answer.
+fn of_good_case(case: &Case, capacity: usize, work_length: usize) -> Answer {
+    match faults::of_call(case.n, capacity, work_length) {
+        Err(fault) => refused(fault),
+        Ok(()) => search(case, capacity).answer,
+    }
+}
+
+/// What the verdict on packed bytes must be.
+pub fn of_packed(bytes: &[u8], capacity: usize, work_length: usize) -> Answer {
+    match faults::of_packed(bytes) {
+        Err(fault) => refused(fault),
+        Ok(case) => of_good_case(&case, capacity, work_length),
+    }
+}
+
+/// What the verdict on an unpacked case must be.
+pub fn of_unpacked(case: &Case, capacity: usize, work_length: usize) -> Answer {
+    match faults::of_case(case) {
+        Err(fault) => refused(fault),
+        Ok(()) => of_good_case(case, capacity, work_length),
+    }
+}
+
+/// Numbers on each side of a lent workspace that no call may touch.
+const GUARD: usize = 16;
+
+/// A workspace full of numbers other than 0, between two guards.
+pub struct Lent {
+    all: Vec<i32>,
+    before: Vec<i32>,
+}
+
+impl Lent {
+    pub fn new(random: &mut Random, length: usize) -> Lent {
+        let mut next = random.draw() as i32;
+        let all: Vec<i32> = (0..length + 2 * GUARD)
+            .map(|_| {
+                next = next.wrapping_mul(1_664_525).wrapping_add(1_013_904_223);
+                next | 1
+            })
+            .collect();
+        Lent {
+            before: all.clone(),
+            all,
+        }
+    }
+
+    /// The part that is lent.
+    pub fn part(&mut self) -> &mut [i32] {
+        let end = self.all.len() - GUARD;
+        &mut self.all[GUARD..end]
+    }
+
+    /// Whether the workspace is as it must be after such an answer: as it was
+    /// after faults 1 to 10, all zero after every other answer.
+    pub fn right_after(&self, answer: &Answer) -> Result<(), String> {
+        let (first, last) = (GUARD, self.all.len() - GUARD);
+        if self.all[..first] != self.before[..first] || self.all[last..] != self.before[last..] {
+            return Err("numbers beside the workspace were changed".to_string());
+        }
+        let (lent, before) = (&self.all[first..last], &self.before[first..last]);
+        match fault_number(answer) {
+            1..=10 if lent != before => Err("the workspace was changed".to_string()),
+            1..=10 => Ok(()),
+            _ => match lent.iter().position(|&number| number != 0) {
+                Some(place) => Err(format!("number {place} of {} is not 0", lent.len())),
+                None => Ok(()),
+            },
+        }
+    }
+}
+
+/// The entries of a case with every number that must be ignored made random:
+/// values marked absent and all entries beyond n. Presence is any number but 0.
+pub fn noisy(random: &mut Random, case: &Case) -> Entries {
+    let mut entries = case.entries();
+    let (times, bounds) = match case.n {
+        1..=7 => (case.n * case.n, case.n * (case.n + 1)),
+        _ => (49, 56),
+    };
+    for place in 0..ENTRIES {
+        let used = match place {
+            0..=48 => place < times,
+            49..=104 => place - 49 < bounds,
+            _ => place - 105 < bounds,
+        };
+        if used && entries.present[place] != 0 {
+            entries.present[place] = random.between(1, 255) as u8;
+            continue;
+        }
+        entries.values[place] = random.draw() as i64;
+        if !used {
+            entries.present[place] = random.between(0, 255) as u8;
+        }
+    }
+    entries
+}
+
+/// Words for a failed comparison on packed bytes.
+pub fn named(seed: u64, bytes: &[u8], capacity: usize) -> String {
+    let hex: Vec<String> = bytes.iter().map(|byte| format!("{byte:02X}")).collect();
+    let case = match faults::of_packed(bytes) {
+        Ok(case) => format!("n {}, N {}", case.n, case.horizon),
+        Err(fault) => format!("{fault:?}"),
+    };
+    format!("seed {seed}, {case}, Z {capacity}, bytes {}", hex.join(" "))
+}
+
+/// Words for a failed comparison on an unpacked case.
+pub fn named_unpacked(seed: u64, case: &Case, capacity: usize) -> String {
+    let (n, horizon) = (case.n, case.horizon);
+    format!("seed {seed}, n {n}, N {horizon}, Z {capacity}, unpacked {case:?}")
+}

@@ -1,0 +1,210 @@
+//! Random damage to packed cases, unpacked cases and runs.
+
+use crate::case::{Case, Times};
+use crate::faults;
+use crate::random::{bearable, trial, Random};
+
+/// A call on packed bytes.
+pub struct PackedCall {
+    pub bytes: Vec<u8>,
+    pub capacity: usize,
+    pub work_length: usize,
+}
+
+/// A call on an unpacked case.
+pub struct UnpackedCall {
+    pub case: Case,
+    pub capacity: usize,
+    pub work_length: usize,
+}
+
+/// A run.
+pub struct RunCall {
+    pub case: Case,
+    pub start: Times,
+    pub cycle: usize,
+}
+
+/// A number at a limit, just beyond it, or at the end of a field's range.
+fn at_limit(random: &mut Random, limit: i64, width: u32) -> i64 {
+    let half = 1 << (width - 1);
+    let size = random.one_of(&[limit, limit + 1, limit + 2, half - 1]);
+    random.one_of(&[size, -size, -half])
+}
+
+/// One of the table's places.
+fn place(random: &mut Random, n: usize) -> usize {
+    random.below(n * n)
+}
+
+/// Puts a time, a bound or an empty row into a case with n from 1 to 7.
+fn damage_values(random: &mut Random, case: &mut Case) {
+    let n = case.n;
+    match random.below(4) {
+        0 => case.times[place(random, n)] = Some(at_limit(random, 86_400, 18)),
+        1 => {
+            let row = random.below(n);
+            case.times[row * n..row * n + n].fill(None);
+        }
+        2 => case.start[random.below(n * (n + 1))] = Some(at_limit(random, 1_000_000, 21)),
+        _ => case.target[random.below(n * (n + 1))] = Some(at_limit(random, 1_000_000, 21)),
+    }
+}
+
+/// Damages bytes: flipped bits, a cut, more bytes, a set bit in the last
+/// byte, n = 0, or other bytes altogether.
+fn damage_bytes(random: &mut Random, bytes: &mut Vec<u8>) {
+    match random.below(7) {
+        0 | 1 => {
+            for _ in 0..=random.below(3) {
+                let bit = random.below(8 * bytes.len().max(1));
+                if let Some(byte) = bytes.get_mut(bit / 8) {
+                    *byte ^= 128 >> (bit % 8);
+                }
+            }
+        }
+        2 => bytes.truncate(random.below(bytes.len() + 1)),
+        3 => {
+            for _ in 0..=random.below(3) {
+                bytes.push(random.one_of(&[0, 0, 128, 255]));
+            }
+        }
+        4 => {
+            if let Some(last) = bytes.last_mut() {
+                *last |= 1 << random.below(7);
+            }
+        }
+        5 => {
+            if let Some(first) = bytes.first_mut() {
+                *first &= 31;
+            }
+        }
+        _ => {
+            let length = random.below(60);
+            *bytes = (0..length).map(|_| random.draw() as u8).collect();
+        }
+    }
+}
+
+/// A capacity and a length of the workspace, either of them often bad.
+fn lent(random: &mut Random, n: usize, good: usize) -> (usize, usize) {
+    let capacity = match random.below(8) {
+        0 => random.one_of(&[0, 4097, 5000, usize::MAX, 1 << 63, 1 << 61]),
+        _ => good,
+    };
+    let exact = faults::workspace(n.min(7), capacity.min(4097));
+    let length = match random.below(8) {
+        0 => exact.saturating_sub(1),
+        1 => random.below(exact + 1),
+        2 => 0,
+        3 => exact + 1 + random.below(300),
+        _ => exact,
+    };
+    (capacity, length)
+}
+
+/// Whether brute search 2 can take on what is left of a case, and with which
+/// capacity. A capacity of 4,096 is tried now and then.
+fn good_capacity(random: &mut Random, case: &Case, given: usize) -> Option<usize> {
+    if random.chance(1, 16) && bearable(case, 4096) == Some(4096) {
+        return Some(4096);
+    }
+    bearable(case, given)
+}
+
+/// A packed call with up to two kinds of damage.
+pub fn packed(random: &mut Random) -> PackedCall {
+    loop {
+        let mut trial = trial(random);
+        for _ in 0..random.below(3) {
+            damage_values(random, &mut trial.case);
+        }
+        let mut bytes = trial.case.pack();
+        for _ in 0..random.below(3) {
+            damage_bytes(random, &mut bytes);
+        }
+        let good = match faults::of_packed(&bytes) {
+            Ok(case) => good_capacity(random, &case, trial.capacity),
+            Err(_) => Some(trial.capacity),
+        };
+        if let Some(good) = good {
+            let (capacity, work_length) = lent(random, trial.case.n, good);
+            return PackedCall {
+                bytes,
+                capacity,
+                work_length,
+            };
+        }
+    }
+}
+
+/// A value far beyond every limit, or just beyond one.
+fn far(random: &mut Random, limit: i64) -> i64 {
+    let sizes = [limit, limit + 1, 1 << 31, 1 << 32, (1 << 32) + 1, i64::MAX];
+    let size = random.one_of(&sizes);
+    random.one_of(&[size, -size, i64::MIN])
+}
+
+/// Damages an unpacked case, n and N included.
+fn damage_case(random: &mut Random, case: &mut Case) {
+    let n = case.n.clamp(1, 7);
+    let huge = [0, 8, 9, 255, 256, 257, 1 << 32, (1 << 32) + 1, usize::MAX];
+    match random.below(6) {
+        0 => case.n = random.one_of(&huge),
+        1 => case.horizon = random.one_of(&[0, 64, 65, 255, 257, (1 << 32) + 1, usize::MAX]),
+        2 => case.times[place(random, n)] = Some(far(random, 86_400)),
+        3 => case.start[random.below(n * (n + 1))] = Some(far(random, 1_000_000)),
+        4 => case.target[random.below(n * (n + 1))] = Some(far(random, 1_000_000)),
+        _ => {
+            case.n = n;
+            damage_values(random, case)
+        }
+    }
+}
+
+/// An unpacked call with up to two kinds of damage.
+pub fn unpacked(random: &mut Random) -> UnpackedCall {
+    loop {
+        let mut trial = trial(random);
+        for _ in 0..random.below(3) {
+            damage_case(random, &mut trial.case);
+        }
+        let good = match faults::of_case(&trial.case) {
+            Ok(()) => good_capacity(random, &trial.case, trial.capacity),
+            Err(_) => Some(trial.capacity),
+        };
+        if let Some(good) = good {
+            let (capacity, work_length) = lent(random, trial.case.n, good);
+            return UnpackedCall {
+                case: trial.case,
+                capacity,
+                work_length,
+            };
+        }
+    }
+}
+
+/// A run, with damage to its case, its cycle or its start times.
+pub fn run(random: &mut Random) -> RunCall {
+    let mut case = trial(random).case;
+    for _ in 0..random.below(3) {
+        damage_case(random, &mut case);
+    }
+    let huge = [255, 256, 1 << 32, (1 << 32) + 3, usize::MAX];
+    let cycle = match random.below(8) {
+        0 => random.one_of(&huge),
+        1..=3 => random.below(71),
+        _ => random.below(65),
+    };
+    let limit: i64 = 1_000_000_000_000;
+    let mut start = [0; 7];
+    for time in &mut start {
+        *time = match random.below(12) {
+            0 => random.one_of(&[limit + 1, -limit - 1, i64::MIN, i64::MAX, i64::MIN + 1]),
+            1 | 2 => random.one_of(&[limit, -limit]),
+            3 | 4 => random.between(-limit, limit),
+            _ => random.between(-1000, 1000),
+        };
+    }
+    RunCall { case, start, cycle }
+}

@@ -1,0 +1,191 @@
+//! The faults, in the order in which they are judged.
+
+use crate::archive::Fault;
+use crate::case::{Case, Times};
+
+fn fault(number: usize, returned: usize) -> Fault {
+    Fault { number, returned }
+}
+
+/// Reads fields from the bits of a packed case.
+struct Reader<'a> {
+    bytes: &'a [u8],
+    place: usize,
+}
+
+impl Reader<'_> {
+    /// The next bit, or none at the end.
+    fn bit(&mut self) -> Option<bool> {
+        let byte = self.bytes.get(self.place / 8)?;
+        let bit = byte << (self.place % 8) & 128 != 0;
+        self.place += 1;
+        Some(bit)
+    }
+
+    /// A number of `width` bits without a sign.
+    fn number(&mut self, width: usize) -> Option<i64> {
+        let mut number = 0;
+        for _ in 0..width {
+            number = 2 * number + i64::from(self.bit()?);
+        }
+        Some(number)
+    }
+
+    /// A number of `width` bits in two's complement.
+    fn signed(&mut self, width: usize) -> Option<i64> {
+        let number = self.number(width)?;
+        let half = 1 << (width - 1);
+        Some(if number < half {
+            number
+        } else {
+            number - 2 * half
+        })
+    }
+
+    /// A presence bit and, if it is 1, a value; they form one field.
+    fn entry(&mut self, width: usize) -> Result<Option<i64>, Fault> {
+        let place = self.place;
+        let field = match self.bit() {
+            Some(true) => self.signed(width).map(Some),
+            Some(false) => Some(None),
+            None => None,
+        };
+        field.ok_or(fault(1, place))
+    }
+
+    /// The table's times, each judged as it is read, each row after its last.
+    fn table(&mut self, case: &mut Case) -> Result<(), Fault> {
+        for row in 0..case.n {
+            let first = self.place;
+            let mut any = false;
+            for column in 0..case.n {
+                let place = self.place;
+                let time = self.entry(18)?;
+                if time.is_some_and(|t| !(-86_400..=86_400).contains(&t)) {
+                    return Err(fault(4, place));
+                }
+                any |= time.is_some();
+                case.times[row * case.n + column] = time;
+            }
+            if !any {
+                return Err(fault(5, first));
+            }
+        }
+        Ok(())
+    }
+
+    /// One pattern's bounds.
+    fn pattern(&mut self, bounds: &mut [Option<i64>]) -> Result<(), Fault> {
+        for bound in bounds {
+            let place = self.place;
+            *bound = self.entry(21)?;
+            if bound.is_some_and(|b| !(-1_000_000..=1_000_000).contains(&b)) {
+                return Err(fault(6, place));
+            }
+        }
+        Ok(())
+    }
+
+    /// The fill up to a whole byte, and that nothing follows.
+    fn end(&mut self) -> Result<(), Fault> {
+        while !self.place.is_multiple_of(8) {
+            let place = self.place;
+            if self.bit() == Some(true) {
+                return Err(fault(7, place));
+            }
+        }
+        if self.place < 8 * self.bytes.len() {
+            return Err(fault(8, self.place));
+        }
+        Ok(())
+    }
+}
+
+/// The case that the bytes hold, or faults 1, 2 and 4 to 8.
+pub fn of_packed(bytes: &[u8]) -> Result<Case, Fault> {
+    let mut reader = Reader { bytes, place: 0 };
+    let n = reader.number(3).ok_or(fault(1, 0))? as usize;
+    if n == 0 {
+        return Err(fault(2, 0));
+    }
+    let horizon = reader.number(6).ok_or(fault(1, 3))? as usize + 1;
+    let mut case = Case::empty(n, horizon);
+    reader.table(&mut case)?;
+    let bounds = n * (n + 1);
+    reader.pattern(&mut case.start[..bounds])?;
+    reader.pattern(&mut case.target[..bounds])?;
+    reader.end()?;
+    Ok(case)
+}
+
+/// Faults 4 and 5 of an unpacked table; n is from 1 to 7.
+fn of_table(case: &Case) -> Result<(), Fault> {
+    for row in 0..case.n {
+        for column in 0..case.n {
+            if case
+                .time(row, column)
+                .is_some_and(|t| !(-86_400..=86_400).contains(&t))
+            {
+                return Err(fault(4, row * case.n + column));
+            }
+        }
+        if (0..case.n).all(|column| case.time(row, column).is_none()) {
+            return Err(fault(5, row * case.n));
+        }
+    }
+    Ok(())
+}
+
+/// Faults 2 to 6 of an unpacked case.
+pub fn of_case(case: &Case) -> Result<(), Fault> {
+    if !(1..=7).contains(&case.n) {
+        return Err(fault(2, 0));
+    }
+    if !(1..=64).contains(&case.horizon) {
+        return Err(fault(3, 0));
+    }
+    of_table(case)?;
+    let bounds = case.n * (case.n + 1);
+    let both = case.start[..bounds].iter().chain(&case.target[..bounds]);
+    for (place, bound) in both.enumerate() {
+        if bound.is_some_and(|b| !(-1_000_000..=1_000_000).contains(&b)) {
+            return Err(fault(6, place));
+        }
+    }
+    Ok(())
+}
+
+/// Numbers that the workspace must hold for a good Z.
+pub fn workspace(n: usize, capacity: usize) -> usize {
+    2 * capacity * (n + 1) * (n + 1)
+}
+
+/// Faults 9 and 10 of a call on a case of n departures.
+pub fn of_call(n: usize, capacity: usize, work_length: usize) -> Result<(), Fault> {
+    if !(1..=4096).contains(&capacity) {
+        return Err(fault(9, 0));
+    }
+    if work_length < workspace(n, capacity) {
+        return Err(fault(10, 0));
+    }
+    Ok(())
+}
+
+/// The faults of a run: 2, 3 for its cycle, 4, 5 and 13.
+pub fn of_run(case: &Case, start: &Times, cycle: usize) -> Result<(), Fault> {
+    if !(1..=7).contains(&case.n) {
+        return Err(fault(2, 0));
+    }
+    if cycle > 64 {
+        return Err(fault(3, 0));
+    }
+    of_table(case)?;
+    let limit = 1_000_000_000_000;
+    match start[..case.n]
+        .iter()
+        .position(|t| !(-limit..=limit).contains(t))
+    {
+        Some(departure) => Err(fault(13, departure)),
+        None => Ok(()),
+    }
+}

@@ -1,0 +1,468 @@
+//! A seeded generator of numbers, and random cases made with it.
+
+use crate::archive::Verdict;
+use crate::case::{pair, Case, Pattern, Times};
+use crate::enumeration::image;
+use crate::selections::{first_repeat, search, searched};
+
+/// Numbers that follow from the seed alone (splitmix64).
+pub struct Random {
+    state: u64,
+}
+
+impl Random {
+    pub fn new(seed: u64) -> Random {
+        Random { state: seed }
+    }
+
+    pub fn draw(&mut self) -> u64 {
+        self.state = self.state.wrapping_add(0x9E37_79B9_7F4A_7C15);
+        let mut mixed = self.state;
+        mixed = (mixed ^ mixed >> 30).wrapping_mul(0xBF58_476D_1CE4_E5B9);
+        mixed = (mixed ^ mixed >> 27).wrapping_mul(0x94D0_49BB_1331_11EB);
+        mixed ^ mixed >> 31
+    }
+
+    /// A number from 0 to `count` - 1.
+    pub fn below(&mut self, count: usize) -> usize {
+        (self.draw() % count as u64) as usize
+    }
+
+    /// A number from `low` to `high`.
+    pub fn between(&mut self, low: i64, high: i64) -> i64 {
+        low + (self.draw() % (high - low + 1) as u64) as i64
+    }
+
+    /// True `part` times out of `whole` on average.
+    pub fn chance(&mut self, part: usize, whole: usize) -> bool {
+        self.below(whole) < part
+    }
+
+    /// One of the items.
+    pub fn one_of<T: Copy>(&mut self, items: &[T]) -> T {
+        items[self.below(items.len())]
+    }
+}
+
+/// A random case, a capacity, and a start near which brute search 1 looks.
+pub struct Trial {
+    pub case: Case,
+    pub capacity: usize,
+    pub near: Times,
+}
+
+/// The largest sizes of times and of bounds in a case, and whether the
+/// table's times are all of that size.
+#[derive(Clone, Copy)]
+struct Scale {
+    time: i64,
+    bound: i64,
+    extreme: bool,
+}
+
+const fn scale(time: i64, bound: i64, extreme: bool) -> Scale {
+    Scale {
+        time,
+        bound,
+        extreme,
+    }
+}
+
+const SMALL: Scale = scale(3, 4, false);
+const MIDDLE: Scale = scale(60, 100, false);
+const LARGE: Scale = scale(86_400, 1_000_000, false);
+const EXTREME: Scale = scale(86_400, 1_000_000, true);
+
+/// Zones times selections times cycles that brute search 2 may have to try.
+const LABOUR: usize = 100_000;
+
+/// A capacity with which the search on this case stays short, or none if
+/// even one zone is too many.
+pub fn bearable(case: &Case, capacity: usize) -> Option<usize> {
+    let columns = |i: usize| (0..case.n).filter(|&j| case.time(i, j).is_some()).count();
+    let selections: usize = (0..case.n).map(columns).product();
+    let zones = LABOUR / (selections * searched(case).0);
+    (zones > 0).then_some(capacity.min(zones))
+}
+
+/// A time of a scale, sometimes at the very limit.
+fn time(random: &mut Random, scale: Scale) -> i64 {
+    if scale.extreme {
+        random.one_of(&[-scale.time, scale.time])
+    } else if random.chance(1, 8) {
+        random.one_of(&[-scale.time, 0, scale.time])
+    } else {
+        random.between(-scale.time, scale.time)
+    }
+}
+
+/// A table of any kind: each entry is there `part` times out of 6.
+fn any_table(random: &mut Random, case: &mut Case, scale: Scale, part: usize) {
+    for i in 0..case.n {
+        for j in 0..case.n {
+            if random.chance(part, 6) {
+                case.times[i * case.n + j] = Some(time(random, scale));
+            }
+        }
+        if (0..case.n).all(|j| case.time(i, j).is_none()) {
+            let j = random.below(case.n);
+            case.times[i * case.n + j] = Some(time(random, scale));
+        }
+    }
+}
+
+/// A mixed order of the departures.
+fn mixed_order(random: &mut Random, n: usize) -> Vec<usize> {
+    let mut order: Vec<usize> = (0..n).collect();
+    for last in (1..n).rev() {
+        order.swap(last, random.below(last + 1));
+    }
+    order
+}
+
+/// A table whose powers soon repeat: A(i, j) is `drift` + u(i) - u(j), less
+/// something off a permutation's places.
+fn repeating_table(random: &mut Random, case: &mut Case, drift: i64, part: usize) {
+    let n = case.n;
+    let order = mixed_order(random, n);
+    let size = random.one_of(&[0, 2, 9]);
+    let ahead: Vec<i64> = (0..n).map(|_| random.between(-size, size)).collect();
+    for i in 0..n {
+        for j in 0..n {
+            let on = order[i] == j;
+            if on || random.chance(part, 6) {
+                let less = if on { 0 } else { random.between(0, 4) };
+                case.times[i * n + j] = Some(drift + ahead[i] - ahead[j] - less);
+            }
+        }
+    }
+}
+
+/// A table whose powers repeat after about `length` cycles: one departure loses
+/// a second or more in each cycle until the links of another overtake it.
+fn slow_table(random: &mut Random, case: &mut Case, length: i64) {
+    let n = case.n;
+    let drift = random.one_of(&[0, 0, 1, -7, 60]);
+    let loss = random.between(1, 3);
+    let there = random.between(0, loss * length);
+    case.times[0] = Some(drift);
+    for i in 1..n {
+        case.times[i * n + i] = Some(drift - loss);
+        case.times[i * n] = Some(drift - there);
+        case.times[i] = Some(drift - (loss * length - there));
+    }
+    if n > 2 {
+        let (i, j) = (random.below(n), random.below(n));
+        case.times[i * n + j] = case.time(i, j).or(Some(drift - loss * length));
+    }
+}
+
+/// Bounds around given times: each pair is bounded `part` times out of 6, with
+/// up to `slack` seconds more than the times need. A bound beyond the limit
+/// is left out.
+fn around(random: &mut Random, n: usize, x: &Times, slack: i64, part: usize) -> Pattern {
+    let mut pattern = [None; 56];
+    let at = |i: usize| if i == 0 { 0 } else { x[i - 1] };
+    for i in 0..=n {
+        for j in (0..=n).filter(|&j| j != i) {
+            let bound = at(i) - at(j) + random.between(0, slack);
+            if random.chance(part, 6) && bound.abs() <= 1_000_000 {
+                pattern[pair(n, i, j)] = Some(bound);
+            }
+        }
+    }
+    pattern
+}
+
+/// Bounds of any kind, with no times in mind; many cannot be met.
+fn any_pattern(random: &mut Random, n: usize, scale: Scale, part: usize) -> Pattern {
+    let mut pattern = [None; 56];
+    for bound in pattern.iter_mut().take(n * (n + 1)) {
+        if random.chance(part, 6) {
+            *bound = Some(random.between(-scale.bound / 2, scale.bound));
+        }
+    }
+    pattern
+}
+
+/// The pattern without the bounds that name the clock.
+fn differences(n: usize, mut pattern: Pattern) -> Pattern {
+    for i in 1..=n {
+        pattern[pair(n, i, 0)] = None;
+        pattern[pair(n, 0, i)] = None;
+    }
+    pattern
+}
+
+/// A pattern: free, loose, tight around the times, or of any kind.
+fn pattern(random: &mut Random, n: usize, x: &Times, scale: Scale) -> Pattern {
+    let made = match random.below(9) {
+        0 => [None; 56],
+        1 => around(random, n, x, scale.bound, 2),
+        8 => around(random, n, x, 0, 1),
+        2 => around(random, n, x, 2, 3),
+        3 | 4 => around(random, n, x, 1, 6),
+        5 => around(random, n, x, 0, 6),
+        6 => any_pattern(random, n, scale, 1),
+        _ => any_pattern(random, n, scale, 3),
+    };
+    if random.chance(1, 2) {
+        differences(n, made)
+    } else {
+        made
+    }
+}
+
+/// Times of a scale. In extreme cases each is far from that of the departure
+/// before it, so that bounds add up.
+fn times(random: &mut Random, n: usize, scale: Scale) -> Times {
+    let mut x = [0; 7];
+    if scale.extreme {
+        let mut last = 0;
+        let sign = random.one_of(&[-1, 1]);
+        for departure in mixed_order(random, n) {
+            last += sign * random.between(900_000, 1_000_000);
+            x[departure] = last;
+        }
+        return x;
+    }
+    for time in x.iter_mut().take(n) {
+        *time = random.between(-scale.bound / 2, scale.bound / 2);
+    }
+    x
+}
+
+/// A number of cycles, mostly small.
+fn cycles(random: &mut Random) -> usize {
+    match random.below(12) {
+        0 => 64,
+        1 => 1 + random.below(64),
+        2..=4 => 1 + random.below(12),
+        _ => 1 + random.below(4),
+    }
+}
+
+/// A horizon close to what decides: the cycle at which the hidden start
+/// arrives, or the first repeated power.
+fn sharp_horizon(random: &mut Random, case: &Case, arrival: usize) -> usize {
+    let about = match (random.below(3), first_repeat(case)) {
+        (0, _) | (_, None) => arrival,
+        (_, Some(repeat)) => repeat.q - 1,
+    };
+    (about + random.below(4)).saturating_sub(1).clamp(1, 64)
+}
+
+/// A table of one of four kinds.
+fn table(random: &mut Random, case: &mut Case, scale: Scale) {
+    let part = random.one_of(&[0, 1, 2, 4, 6]);
+    match random.below(6) {
+        0 | 1 => any_table(random, case, scale, part),
+        2 | 3 => {
+            let drift = random.one_of(&[0, 0, 1, -1, 7, -scale.time / 2]);
+            repeating_table(random, case, drift, part)
+        }
+        4 if case.n > 1 => {
+            let length = random.one_of(&[6, 12, 30, 58, 70]);
+            slow_table(random, case, length)
+        }
+        _ => any_table(random, case, scale, 6),
+    }
+}
+
+/// Patterns and horizon for a table: the target lies around what a hidden
+/// start becomes after some cycles.
+fn with_patterns(random: &mut Random, mut case: Case, scale: Scale) -> (Case, Times) {
+    let near = times(random, case.n, scale);
+    let arrival = cycles(random);
+    let then = image(&case, &near, arrival);
+    case.start = pattern(random, case.n, &near, scale);
+    case.target = pattern(random, case.n, &then, scale);
+    case.horizon = if scale.extreme && random.chance(1, 2) {
+        64
+    } else if random.chance(1, 2) {
+        sharp_horizon(random, &case, arrival)
+    } else {
+        cycles(random)
+    };
+    (case, near)
+}
+
+/// Whether cycle 1 already decides. Most such cases are drawn again, since
+/// they say little about later cycles.
+fn reached_at_once(case: &Case, capacity: usize) -> bool {
+    let mut one_cycle = *case;
+    one_cycle.horizon = 1;
+    let verdict = search(&one_cycle, capacity).answer.verdict;
+    verdict == Verdict::Reached { cycle: 1 }
+}
+
+/// A random case of `low` to `high` departures.
+fn trial_of(random: &mut Random, low: i64, high: i64, sparse: bool) -> Trial {
+    loop {
+        let scale = random.one_of(&[SMALL, SMALL, SMALL, MIDDLE, MIDDLE, LARGE, LARGE, EXTREME]);
+        let mut case = Case::empty(random.between(low, high) as usize, 1);
+        if sparse {
+            let part = random.below(2);
+            any_table(random, &mut case, scale, part);
+        } else {
+            table(random, &mut case, scale);
+        }
+        let (case, near) = with_patterns(random, case, scale);
+        let capacity = random.one_of(&[1, 2, 3, 5, 9, 17, 40, 128]);
+        if reached_at_once(&case, capacity) && random.chance(5, 6) {
+            continue;
+        }
+        if let Some(capacity) = bearable(&case, capacity) {
+            return Trial {
+                case,
+                capacity,
+                near,
+            };
+        }
+    }
+}
+
+/// A case in which several zones meet the start, so that their order decides
+/// which start is handed back: few bounds on the start, many on the target.
+fn choice_trial(random: &mut Random) -> Trial {
+    loop {
+        let n = random.between(2, 4) as usize;
+        let scale = random.one_of(&[SMALL, SMALL, MIDDLE]);
+        let mut case = Case::empty(n, 1 + random.below(4));
+        let part = random.between(3, 6) as usize;
+        any_table(random, &mut case, scale, part);
+        let near = times(random, n, scale);
+        let then = image(&case, &near, case.horizon);
+        let slack = random.between(0, 3);
+        case.target = around(random, n, &then, slack, part);
+        for _ in 0..random.below(3) {
+            let place = random.below(n * (n + 1));
+            case.start[place] = Some(random.between(-2 * scale.bound, 0));
+        }
+        if let Some(capacity) = bearable(&case, 128) {
+            return Trial {
+                case,
+                capacity,
+                near,
+            };
+        }
+    }
+}
+
+/// A case in which the first repeated power is about 64, the horizon too, and
+/// the target is hard to meet.
+fn late_trial(random: &mut Random) -> Trial {
+    let mut case = Case::empty(random.between(2, 3) as usize, 1);
+    let length = random.between(59, 65);
+    slow_table(random, &mut case, length);
+    case.horizon = random.between(61, 64) as usize;
+    let near = times(random, case.n, MIDDLE);
+    let then = times(random, case.n, MIDDLE);
+    case.start = around(random, case.n, &near, 1, 4);
+    case.target = differences(case.n, around(random, case.n, &then, 1, 6));
+    Trial {
+        case,
+        capacity: 128,
+        near,
+    }
+}
+
+/// A case with bounds of up to 36,000,000 in its lists, met only late. In each
+/// of three pairs of departures one falls behind and the other runs ahead,
+/// and each of two that fall behind gives the first push to one ahead. The
+/// seventh departure keeps the time.
+fn ladder_trial(random: &mut Random) -> Trial {
+    let order = mixed_order(random, 7);
+    let cycles = random.between(50, 64);
+    let mut case = Case::empty(7, cycles as usize + random.below(2));
+    case.horizon = case.horizon.min(64);
+    let place = |i: usize, j: usize| 7 * order[i] + order[j];
+    for (i, ahead) in [-1, -1, 1, -1, 1, 1].into_iter().enumerate() {
+        case.times[place(i, i)] = Some(ahead * random.between(86_000, 86_400));
+    }
+    case.times[place(2, 1)] = Some(86_400);
+    case.times[place(4, 3)] = Some(86_400);
+    case.times[place(6, 6)] = Some(1_000_000 / cycles);
+    let clock = order[6] + 1;
+    let last = 1_000_000 / cycles * cycles;
+    for (pattern, time) in [(&mut case.start, 0), (&mut case.target, last)] {
+        pattern[pair(7, clock, 0)] = Some(time);
+        pattern[pair(7, 0, clock)] = Some(-time);
+    }
+    case.start[pair(7, order[0] + 1, 0)] = Some(random.between(0, 9));
+    case.start[pair(7, 0, order[0] + 1)] = Some(0);
+    for (behind, ahead) in [(0, 2), (1, 4), (3, 5)] {
+        let bound = random.between(900_000, 1_000_000);
+        case.target[pair(7, order[behind] + 1, order[ahead] + 1)] = Some(bound);
+    }
+    Trial {
+        case,
+        capacity: 128,
+        near: [0; 7],
+    }
+}
+
+/// A random case: most are of 1 to 4 departures, some of 5 to 7.
+pub fn trial(random: &mut Random) -> Trial {
+    match random.below(64) {
+        0..=3 => trial_of(random, 5, 7, true),
+        4..=15 => choice_trial(random),
+        16..=17 => late_trial(random),
+        18 => ladder_trial(random),
+        _ => trial_of(random, 1, 4, false),
+    }
+}
+
+/// A case of n departures without a single blank in its table, over one or
+/// two cycles, and a capacity that its lists seldom exceed.
+pub fn dense_trial(random: &mut Random, n: usize) -> Trial {
+    let scale = random.one_of(&[SMALL, MIDDLE]);
+    let mut case = Case::empty(n, if n < 6 { 2 } else { 1 });
+    any_table(random, &mut case, scale, 6);
+    let near = times(random, n, scale);
+    let then = image(&case, &near, 1);
+    case.start = around(random, n, &near, 1, 3);
+    case.target = around(random, n, &then, 1, 6);
+    if random.chance(1, 2) {
+        // The start now lies off, so that the search goes on.
+        case.start[pair(n, 0, 1)] = Some(-near[0] - 5);
+        case.start[pair(n, 1, 0)] = None;
+    }
+    Trial {
+        case,
+        capacity: 128,
+        near,
+    }
+}
+
+/// A case whose lists grow long: no blanks, a wide target or none, and a
+/// start that nobody can meet, so that the search goes on.
+pub fn crowded_trial(random: &mut Random, n: usize, horizon: usize) -> Trial {
+    let scale = random.one_of(&[SMALL, MIDDLE, LARGE]);
+    let mut case = Case::empty(n, horizon);
+    any_table(random, &mut case, scale, 6);
+    for i in 1..=n {
+        if random.chance(1, 2) {
+            case.target[pair(n, i, 0)] = Some(2 * scale.time);
+            case.target[pair(n, 0, i)] = Some(2 * scale.time);
+        }
+    }
+    case.start[pair(n, 0, 1)] = Some(-1);
+    case.start[pair(n, 1, 0)] = Some(0);
+    Trial {
+        case,
+        capacity: 4096,
+        near: [0; 7],
+    }
+}
+
+/// A second capacity for a case, from the lengths of its lists: the longest
+/// list just fits or just does not.
+pub fn sharper(random: &mut Random, lengths: &[usize]) -> Option<usize> {
+    let longest = lengths.iter().copied().max().unwrap_or(0);
+    match longest {
+        0 => None,
+        1 => Some(1),
+        _ => Some(longest - random.below(2)),
+    }
+}

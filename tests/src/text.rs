@@ -1,0 +1,40 @@
+//! What the program prints, made from the faults and brute search 2.
+
+use crate::archive::{Answer, Verdict};
+use crate::case::Case;
+use crate::enumeration::step;
+use crate::faults;
+use crate::selections::search;
+
+/// The capacity that the program uses.
+pub const CAPACITY: usize = 128;
+
+/// What the program prints for the bytes on its standard input.
+pub fn printed(bytes: &[u8]) -> String {
+    match faults::of_packed(bytes) {
+        Err(fault) => format!("refused {} {}\n", fault.number, fault.returned),
+        Ok(case) => lines(&case, &search(&case, CAPACITY).answer),
+    }
+}
+
+/// The lines for an answer on a case.
+pub fn lines(case: &Case, answer: &Answer) -> String {
+    match answer.verdict {
+        Verdict::Refused(fault) => format!("refused {} {}\n", fault.number, fault.returned),
+        Verdict::Clear { horizon } => format!("clear {horizon}\n"),
+        Verdict::Never => "never\n".to_string(),
+        Verdict::Reached { cycle: last } => {
+            let mut text = format!("reached {last}\n");
+            let mut times = answer.start;
+            for cycle in 0..=last {
+                text += &cycle.to_string();
+                for time in &times[..case.n] {
+                    text += &format!(" {time}");
+                }
+                text += "\n";
+                times = step(case, &times);
+            }
+            text
+        }
+    }
+}

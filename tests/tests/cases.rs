@@ -1,0 +1,32 @@
+//! The cases to try: the program prints for each what stands beside it.
+
+use evidence::text::printed;
+use std::fs::{self, File};
+use std::path::{Path, PathBuf};
+use std::process::Command;
+
+/// A file or folder below the one that holds the package.
+fn beside(name: &str) -> PathBuf {
+    Path::new(env!("CARGO_MANIFEST_DIR")).join("..").join(name)
+}
+
+#[test]
+fn every_case_prints_what_is_stored() {
+    let mut count = 0;
+    for entry in fs::read_dir(beside("cases")).expect("the folder of cases") {
+        let case = entry.expect("a file").path();
+        if case.extension().is_none_or(|end| end != "case") {
+            continue;
+        }
+        let stored = fs::read_to_string(case.with_extension("out")).expect("the stored output");
+        let bytes = fs::read(&case).expect("the case");
+        assert_eq!(printed(&bytes), stored, "brute search on {case:?}");
+        let output = Command::new(beside("target/bin/tramcheck"))
+            .stdin(File::open(&case).expect("the case"))
+            .output()
+            .expect("the program starts");
+        assert_eq!(String::from_utf8_lossy(&output.stdout), stored, "{case:?}");
+        count += 1;
+    }
+    assert!(count >= 4, "{count} cases");
+}

@@ -1,0 +1,188 @@
+//! The examples of the statement, through brute search 2, the text maker and
+//! the archive.
+
+use evidence::archive::{self, Answer, Fault, Run, Verdict};
+use evidence::case::{pair, Case, Times};
+use evidence::checks::refused;
+use evidence::faults;
+use evidence::selections::{first_repeat, search, Repeat};
+use evidence::text::printed;
+
+/// A pair of departures and a bound on their difference.
+type Bound = (usize, usize, i64);
+
+/// A table of two rows, with the patterns still free.
+fn two(horizon: usize, times: [Option<i64>; 4]) -> Case {
+    let mut case = Case::empty(2, horizon);
+    case.times[..4].copy_from_slice(&times);
+    case
+}
+
+fn r(horizon: usize) -> Case {
+    two(horizon, [Some(2), Some(5), Some(3), Some(3)])
+}
+
+fn s(horizon: usize) -> Case {
+    two(horizon, [None, Some(0), Some(0), None])
+}
+
+fn o(horizon: usize) -> Case {
+    let mut case = Case::empty(1, horizon);
+    case.times[0] = Some(1);
+    case
+}
+
+/// The case with these bounds in its start and its target.
+fn from_to(mut case: Case, start: &[Bound], target: &[Bound]) -> Case {
+    for &(i, j, bound) in start {
+        case.start[pair(case.n, i, j)] = Some(bound);
+    }
+    for &(i, j, bound) in target {
+        case.target[pair(case.n, i, j)] = Some(bound);
+    }
+    case
+}
+
+/// Checks one example against brute search 2 and both forms of the archive.
+fn check(case: &Case, capacity: usize, verdict: Verdict, first: [i64; 2]) {
+    let mut start: Times = [0; 7];
+    start[..2].copy_from_slice(&first);
+    let stated = Answer { verdict, start };
+    let length = faults::workspace(case.n, capacity);
+    let searched = search(case, capacity).answer;
+    assert_eq!(searched, stated, "brute search, Z {capacity}, {case:?}");
+    let packed = archive::verdict(&case.pack(), capacity, &mut vec![7; length]);
+    assert_eq!(packed, Ok(stated), "packed, Z {capacity}, {case:?}");
+    let unpacked = archive::verdict_unpacked(case, capacity, &mut vec![7; length]);
+    assert_eq!(unpacked, Ok(stated), "unpacked, Z {capacity}, {case:?}");
+}
+
+fn reached(cycle: usize) -> Verdict {
+    Verdict::Reached { cycle }
+}
+
+fn clear(horizon: usize) -> Verdict {
+    Verdict::Clear { horizon }
+}
+
+#[test]
+fn repeated_powers() {
+    let repeat = |q, p, added| Some(Repeat { q, p, added });
+    assert_eq!(first_repeat(&r(1)), repeat(4, 2, 8));
+    assert_eq!(first_repeat(&s(1)), repeat(3, 1, 0));
+    assert_eq!(first_repeat(&o(1)), repeat(2, 1, 1));
+}
+
+#[test]
+fn network_examples() {
+    let to_equal = |case| from_to(case, &[(1, 2, 0)], &[(1, 2, 1), (2, 1, 1)]);
+    check(&to_equal(r(3)), 128, reached(2), [0, 0]);
+    check(&to_equal(r(1)), 128, clear(1), [0, 0]);
+    let to_three = |case| from_to(case, &[], &[(2, 1, -3)]);
+    check(&to_three(r(3)), 128, Verdict::Never, [0, 0]);
+    check(&to_three(r(2)), 128, clear(2), [0, 0]);
+    let one = [(1, 2, 1), (2, 1, -1)];
+    check(&from_to(s(2), &one, &one), 128, reached(2), [0, -1]);
+    check(&from_to(s(1), &one, &one), 128, clear(1), [0, 0]);
+    let five = |case| from_to(case, &[(1, 0, 0), (0, 1, 0)], &[(1, 0, 5), (0, 1, -5)]);
+    check(&five(o(5)), 128, reached(5), [0, 0]);
+    check(&five(o(4)), 128, clear(4), [0, 0]);
+    let within = [(1, 0, 1), (0, 1, 0), (2, 0, 1), (0, 2, 0)];
+    let within = from_to(r(1), &[], &within);
+    check(&within, 128, reached(1), [-2, -5]);
+    let (number, returned) = (11, 1);
+    let full = Verdict::Refused(Fault { number, returned });
+    check(&within, 1, full, [0, 0]);
+    let nobody = from_to(r(3), &[], &[(1, 2, 0), (2, 1, -1)]);
+    check(&nobody, 128, Verdict::Never, [0, 0]);
+}
+
+#[test]
+fn images_of_the_first_example() {
+    let after = |first, second| {
+        let times = [first, second, 0, 0, 0, 0, 0];
+        let judged = Ok(());
+        Ok(Run { judged, times })
+    };
+    assert_eq!(archive::run(&r(1), &[0; 7], 0), after(0, 0));
+    assert_eq!(archive::run(&r(1), &[0; 7], 1), after(5, 3));
+    assert_eq!(archive::run(&r(1), &[0; 7], 2), after(8, 8));
+}
+
+/// The fault of a packed and of an unpacked call, 0 and 0 without one.
+fn both_faults(case: &Case) -> [(usize, usize); 2] {
+    let brute = [
+        faults::of_packed(&case.pack()).map(|_| ()),
+        faults::of_case(case),
+    ];
+    let length = faults::workspace(case.n, 1);
+    let answers = [
+        archive::verdict(&case.pack(), 1, &mut vec![7; length]),
+        archive::verdict_unpacked(case, 1, &mut vec![7; length]),
+    ];
+    for (judged, answer) in brute.iter().zip(answers) {
+        match judged {
+            Err(fault) => assert_eq!(answer, Ok(refused(*fault)), "{case:?}"),
+            Ok(()) => assert_eq!(answer, Ok(search(case, 1).answer), "{case:?}"),
+        }
+    }
+    brute.map(|judged| judged.map_or_else(|fault| (fault.number, fault.returned), |_| (0, 0)))
+}
+
+#[test]
+fn edges_of_values() {
+    for sign in [1, -1] {
+        let mut case = o(1);
+        case.times[0] = Some(sign * 86_400);
+        assert_eq!(both_faults(&case), [(0, 0); 2]);
+        case.times[0] = Some(sign * 86_401);
+        assert_eq!(both_faults(&case), [(4, 9), (4, 0)]);
+        let case = from_to(o(1), &[(0, 1, sign * 1_000_000)], &[]);
+        assert_eq!(both_faults(&case), [(0, 0); 2]);
+        let case = from_to(o(1), &[(0, 1, sign * 1_000_001)], &[]);
+        assert_eq!(both_faults(&case), [(6, 28), (6, 0)]);
+        let case = from_to(o(1), &[], &[(1, 0, sign * 1_000_001)]);
+        assert_eq!(both_faults(&case), [(6, 31), (6, 3)]);
+    }
+}
+
+#[test]
+fn edges_of_the_call() {
+    let never = Answer {
+        verdict: Verdict::Never,
+        start: [0; 7],
+    };
+    let fault = |number| {
+        let returned = 0;
+        refused(Fault { number, returned })
+    };
+    let horizon = |n| from_to(o(n), &[(0, 1, -1), (1, 0, 0)], &[]);
+    let judge = |n, length| archive::verdict_unpacked(&horizon(n), 3, &mut vec![7; length]);
+    assert_eq!(judge(64, 24), Ok(never));
+    assert_eq!(judge(65, 24), Ok(fault(3)));
+    assert_eq!(judge(0, 24), Ok(fault(3)));
+    assert_eq!(judge(64, 23), Ok(fault(10)));
+}
+
+#[test]
+fn what_a_planner_sees() {
+    let seen = |bytes: &[u8]| printed(bytes);
+    assert_eq!(seen(&[0x20, 0x40, 0x03, 0xC0]), "reached 1\n0 0\n1 60\n");
+    assert_eq!(seen(&[0x20, 0x40, 0x03]), "refused 1 9\n");
+    assert_eq!(seen(&[0x20, 0x40, 0x03, 0xC0, 0]), "refused 8 32\n");
+    assert_eq!(seen(&[]), "refused 1 0\n");
+    assert_eq!(seen(&[0]), "refused 2 0\n");
+}
+
+#[test]
+fn packed_lengths() {
+    let mut case = Case::empty(1, 1);
+    case.times[0] = Some(60);
+    assert_eq!(case.pack(), [0x20, 0x40, 0x03, 0xC0]);
+    let mut longest = Case::empty(7, 64);
+    longest.times.fill(Some(-1));
+    longest.start.fill(Some(1));
+    longest.target.fill(Some(-1));
+    assert_eq!(longest.pack().len(), 426);
+    assert_eq!(faults::of_packed(&longest.pack()), Ok(longest));
+}

@@ -1,0 +1,78 @@
+/* Calls the archive's three functions from C and prints what they return. */
+
+#include <stdio.h>
+#include <string.h>
+
+#include "tramcheck.h"
+
+#define ZONES 4
+
+static int32_t work[TRAMCHECK_WORKSPACE(ZONES)];
+
+/* One line: kind, fault, value and the seven times. */
+static void print_line(uint32_t kind, size_t fault, size_t value,
+                       const int64_t times[7])
+{
+    printf("%u %zu %zu", (unsigned)kind, fault, value);
+    for (int i = 0; i < 7; i++)
+        printf(" %lld", (long long)times[i]);
+    printf("\n");
+}
+
+/* How many numbers of the workspace are not 0. */
+static size_t not_zero(void)
+{
+    size_t count = 0;
+    for (size_t i = 0; i < TRAMCHECK_WORKSPACE(ZONES); i++)
+        count += work[i] != 0;
+    return count;
+}
+
+int main(void)
+{
+    static const uint8_t bytes[] = {0x20, 0x40, 0x03, 0xC0};
+    size_t fault, value;
+    int64_t times[7];
+
+    memset(work, 1, sizeof work);
+    uint32_t kind = tramcheck_verdict(bytes, sizeof bytes, ZONES, work,
+                                      TRAMCHECK_WORKSPACE(ZONES), &fault,
+                                      &value, times);
+    print_line(kind, fault, value, times);
+    printf("%d %zu\n", kind == TRAMCHECK_REACHED, not_zero());
+
+    /* The same case unpacked, then with a target that is never met. */
+    uint8_t present[TRAMCHECK_ENTRIES] = {0};
+    int64_t values[TRAMCHECK_ENTRIES] = {0};
+    present[0] = 1;
+    values[0] = 60;
+    kind = tramcheck_verdict_unpacked(1, 1, present, values, ZONES, work,
+                                      TRAMCHECK_WORKSPACE(ZONES), &fault,
+                                      &value, times);
+    print_line(kind, fault, value, times);
+    present[105] = 1;
+    values[105] = -1;
+    present[106] = 1;
+    kind = tramcheck_verdict_unpacked(1, 1, present, values, ZONES, work,
+                                      TRAMCHECK_WORKSPACE(ZONES), &fault,
+                                      &value, times);
+    print_line(kind, fault, value, times);
+    printf("%d\n", kind == TRAMCHECK_NEVER);
+
+    /* The start now names the clock too, so that nothing is known later. */
+    present[49] = 1;
+    kind = tramcheck_verdict_unpacked(1, 1, present, values, ZONES, work,
+                                      TRAMCHECK_WORKSPACE(ZONES), &fault,
+                                      &value, times);
+    print_line(kind, fault, value, times);
+    printf("%d\n", kind == TRAMCHECK_CLEAR);
+
+    /* A run over ten cycles, and one that is refused. */
+    int64_t start[7] = {-7};
+    kind = tramcheck_run(1, present, values, start, 10, &fault, &value, times);
+    print_line(kind, fault, value, times);
+    kind = tramcheck_run(1, present, values, start, 65, &fault, &value, times);
+    print_line(kind, fault, value, times);
+    printf("%d\n", kind == TRAMCHECK_REFUSED);
+    return 0;
+}
