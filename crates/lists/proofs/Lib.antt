@@ -1,8 +1,10 @@
 pub mod Memory
 pub mod Keeping
 pub mod Extensions
+pub mod Seen
 pub mod Columns
 pub mod Selecting
+pub mod Covered
 pub mod Going
 pub mod Starting
 pub mod Pulling

@@ -1,14 +1,15 @@
 -- Lists of zones in memory: the tests of equality, place by place, and one zone more.
-use Prim.Native.Nat.{ℕ, suc, _+_, _*_, _-_, _≤_, _<_}
+use Prim.Native.Nat.{ℕ, zero, suc, _+_, _*_, _-_, _≤_, _<_}
 use native.Mathlib.Omega.{arith}
+use native.Mathlib.Decide.{decLt}
 use native.Mathlib.Nat.{mul-le-mul-right, suc-mul}
 use native.Mathlib.Numerals.{add-one}
 use mathlib.Core.Path.{_≡_, refl, sym, ap, ap₂, _∙_}
 use mathlib.Core.Bool.{Bool, true, false, _&&_, _||_, cond}
 use mathlib.Core.List.{List, [], _∷_, _++_, append-assoc}
 use lib.IntN.{ℤ, pos}
-use lib.ListN.{length, take, drop, getD, length-take, length-drop, drop-of-length-le, List·getD-append}
-use lib.Seq.{drop-cons, getD-take, getD-drop, drop-append-add, drop-drop, take-all, take-at, drop-at, length-take-le, ext-getD, paste, length-paste, length-paste-head}
+use lib.ListN.{length, take, drop, getD, length-take, length-drop, List·getD-append}
+use lib.Seq.{getD-take, getD-drop, drop-append-add, drop-drop, take-all, take-at, drop-at, length-take-le, ext-getD, paste, length-paste, length-paste-head}
 use lib.Dec.{eqb}
 use borrow.Author.Tests.{eqb-true, eq-eqb}
 use mir.Syntax.{Width}
@@ -53,12 +54,20 @@ same-bound a b = same-test _ _
     (λ e. rw (boundIn-injective a b (sameBound-true _ _ e)) (sameZ-refl b))
     (λ e. rw (sameZ-true a b e) (sameBound-refl (boundIn b)))
 
--- ---- one place further on
-module _ {X : Type 0} (z : X) (t : X → X → Bool) (xs ys : List X) (long : length xs ≡ length ys) where
-  pub same-next : (p : ℕ) → p < length xs
-      → sameLists t (drop p xs) (drop p ys) ≡ (t (getD xs p z) (getD ys p z) && sameLists t (drop (p + 1) xs) (drop (p + 1) ys))
-  unfolding sameLists
-  same-next p h = rw (add-one p, drop-cons xs p z h, drop-cons ys p z (omega arith))
+-- ---- one place more
+swapped : (a b c : Bool) → (a && (b && c)) ≡ (b && (a && c))
+swapped true b c = refl
+swapped false true c = refl
+swapped false false c = refl
+
+same-next : {X : Type 0} (z : X) (t : X → X → Bool) (p : ℕ) (xs ys : List X) → p < length xs → p < length ys
+    → sameLists t (take (suc p) xs) (take (suc p) ys) ≡ (t (getD xs p z) (getD ys p z) && sameLists t (take p xs) (take p ys))
+unfolding sameLists
+same-next z t p [] ys h k = absurd (omega arith)
+same-next z t p (x ∷ xs) [] h k = absurd (omega arith)
+same-next z t zero (x ∷ xs) (y ∷ ys) h k = refl
+same-next z t (suc p) (x ∷ xs) (y ∷ ys) h k =
+    ap (λ (b : Bool). t x y && b) (same-next z t p xs ys (omega arith) (omega arith)) ∙ swapped (t x y) (t (getD xs p z) (getD ys p z)) (sameLists t (take p xs) (take p ys))
 
 module _ (size : ℕ) (work : List ℤ) (k : ℕ) (inside : k * size + size ≤ length work) where
   pub length-zoneAt : length (zoneAt size work k) ≡ size
@@ -71,19 +80,20 @@ module _ (size : ℕ) (work : List ℤ) (k : ℕ) (inside : k * size + size ≤ 
       getD-bounds (take size (drop (k * size) work)) p (rw (length-take size (drop (k * size) work), length-drop (k * size) work) (omega arith))
       ∙ ap boundIn (getD-take size (drop (k * size) work) p (pos 0) h ∙ getD-drop (k * size) work p (pos 0))
 
--- zone k against a zone, from place p on
-pub zone-next : (size : ℕ) (work zone : List ℤ) (k : ℕ) → length zone ≡ size → k * size + size ≤ length work → (p : ℕ) → p < size
-    → sameLists sameBound (drop p (boundsIn zone)) (drop p (zoneAt size work k))
-    ≡ (sameZ (getD zone p (pos 0)) (getD work (k * size + p) (pos 0)) && sameLists sameBound (drop (p + 1) (boundsIn zone)) (drop (p + 1) (zoneAt size work k)))
-zone-next size work zone k fits inside p h =
-    same-next B.Bound.none sameBound (boundsIn zone) (zoneAt size work k) (bounds-size zone ∙ fits ∙ sym (length-zoneAt size work k inside)) p (rw (bounds-size zone, fits) h)
-    ∙ rw (getD-bounds zone p (omega arith), getD-zoneAt size work k inside p h, same-bound (getD zone p (pos 0)) (getD work (k * size + p) (pos 0)))
+-- zone k against a zone, up to place p
+module _ (size : ℕ) (work zone : List ℤ) (k : ℕ) (fits : length zone ≡ size) (inside : k * size + size ≤ length work) where
+  bounds-long : length (boundsIn zone) ≡ size
+  bounds-long = bounds-size zone ∙ fits
 
-pub zone-end : (size : ℕ) (work zone : List ℤ) (k : ℕ) → length zone ≡ size → k * size + size ≤ length work → (p : ℕ) → size ≤ p
-    → sameLists sameBound (drop p (boundsIn zone)) (drop p (zoneAt size work k)) ≡ true
-unfolding sameLists
-zone-end size work zone k fits inside p h =
-    rw (drop-of-length-le (boundsIn zone) {i = p} (rw (bounds-size zone) (omega arith)), drop-of-length-le (zoneAt size work k) {i = p} (rw (length-zoneAt size work k inside) h))
+  pub zone-whole : sameLists sameBound (boundsIn zone) (zoneAt size work k) ≡ sameLists sameBound (take size (boundsIn zone)) (take size (zoneAt size work k))
+  zone-whole = rw (take-all size (boundsIn zone) (omega (arith, bounds-long)), take-all size (zoneAt size work k) (omega (arith, length-zoneAt size work k inside)))
+
+  pub zone-next : (p : ℕ) → p < size
+      → sameLists sameBound (take (p + 1) (boundsIn zone)) (take (p + 1) (zoneAt size work k))
+      ≡ (sameZ (getD zone p (pos 0)) (getD work (k * size + p) (pos 0)) && sameLists sameBound (take p (boundsIn zone)) (take p (zoneAt size work k)))
+  zone-next p h =
+      rw (add-one p) (same-next B.Bound.none sameBound p (boundsIn zone) (zoneAt size work k) (omega (arith, bounds-long)) (omega (arith, length-zoneAt size work k inside))
+      ∙ rw (getD-bounds zone p (omega arith), getD-zoneAt size work k inside p h, same-bound (getD zone p (pos 0)) (getD work (k * size + p) (pos 0))))
 
 pub any-next : {X : Type 0} (t : X → Bool) (f : ℕ → X) (n k : ℕ) → k < n → anyOf t (tabulate (n - k) k f) ≡ (t (f k) || anyOf t (tabulate (n - (k + 1)) (k + 1) f))
 unfolding anyOf tabulate
@@ -117,9 +127,9 @@ module _ (size : ℕ) (list zone : List ℤ) (count : ℕ) (fits : length zone �
       ∙ sym (getD-zoneAt size list k (omega arith) p in-zone))
 
   -- it is there
-  there : zoneAt size stored count ≡ boundsIn zone
+  pub stored-at : zoneAt size stored count ≡ boundsIn zone
   unfolding zoneAt
-  there =
+  stored-at =
       let whole : take size zone ≡ zone = take-all size zone (omega arith) in
       ap boundsIn
       (ap (λ (l : List ℤ). take size (drop (count * size) l)) (append-assoc (take (count * size) list) (take size zone) (drop (count * size + size) list))
@@ -132,7 +142,7 @@ module _ (size : ℕ) (list zone : List ℤ) (count : ℕ) (fits : length zone �
       let e : count + 1 ≡ suc count = omega arith in
       let z : 0 + count ≡ count = omega arith in
       rw e (sym (tabulate-snoc count 0 (zoneAt size stored))
-      ∙ ap₂ (λ (l : List Matrix) (m : Matrix). l ++ (m ∷ [])) (tabulate-ext count 0 (zoneAt size stored) (zoneAt size list) (λ k l u. earlier k (omega arith))) (ap (zoneAt size stored) z ∙ there))
+      ∙ ap₂ (λ (l : List Matrix) (m : Matrix). l ++ (m ∷ [])) (tabulate-ext count 0 (zoneAt size stored) (zoneAt size list) (λ k l u. earlier k (omega arith))) (ap (zoneAt size stored) z ∙ stored-at))
 
   -- and nothing behind it has changed
   pub stored-beyond : (m : ℕ) → count * size + size ≤ m → drop m stored ≡ drop m list
@@ -144,3 +154,14 @@ module _ (size : ℕ) (list zone : List ℤ) (count : ℕ) (fits : length zone �
       ap (λ (j : ℕ). drop j stored) e
       ∙ drop-append-add head (drop (count * size + size) list) (m - (count * size + size))
       ∙ drop-drop (m - (count * size + size)) (count * size + size) list ∙ ap (λ (j : ℕ). drop j list) f
+
+  -- so all other zones are as they were
+  pub stored-other : (k : ℕ) → (k ≡ count → ⊥) → zoneAt size stored k ≡ zoneAt size list k
+  unfolding zoneAt
+  stored-other k other = go (decLt k count)
+    where
+      go : Dec (k < count) → zoneAt size stored k ≡ zoneAt size list k
+      go (yes h) = earlier k h
+      go (no h) =
+          let more : count < k = omega arith in
+          ap (λ (l : List ℤ). boundsIn (take size l)) (stored-beyond (k * size) (omega (arith, mul-le-mul-right size more, suc-mul count size)))

@@ -1,11 +1,11 @@
 -- The first set of a selection, and the preimages of a zone as the sets of all selections.
-use Prim.Native.Nat.{ℕ, suc, _+_, _*_, _-_, _≤_}
+use Prim.Native.Nat.{ℕ, zero, suc, _+_, _*_, _-_, _≤_}
 use native.Mathlib.Omega.{arith}
 use mathlib.Core.Path.{_≡_, refl}
 use mathlib.Core.List.{List, [], _∷_, map}
 use mathlib.Core.Option.{Option, none, some}
 use lib.IntN.{ℤ}
-use lib.ListN.{length, take, replicate}
+use lib.ListN.{length, take, getD, replicate}
 use lib.Seq.{paste}
 use Rattle.model.specs.Matrix.{Matrix, everything, tighten}
 use Rattle.model.specs.Network.{Time}
@@ -14,10 +14,11 @@ use Rattle.model.specs.Pattern.{patternConstraints}
 use Rattle.model.specs.Search.{selections, preimage, keep}
 use Rattle.model.proofs.Listed.{of-both}
 use Rattle.model.proofs.Selections.{clock}
+use Rattle.model.proofs.Images.{clock-imaged}
 use Rattle.model.proofs.Sizes.{made-small, made-everything}
-use Rattle.zones.specs.Memory.{boundsIn}
+use Rattle.zones.specs.Memory.{boundsIn, timesIn}
 use Rattle.zones.specs.Conditions.{CommonReady}
-use Rattle.lists.specs.Lists.{listIn, extensions, partIn, Selecting, Sources, Meets}
+use Rattle.lists.specs.Lists.{listIn, extensions, partIn, Selecting, Noted, Sources, Meets}
 use Rattle.lists.proofs.Memory.{stored-list}
 use Rattle.lists.proofs.Going.{size}
 
@@ -44,6 +45,19 @@ first-set {n} {times} {zone} {part} s size e long = record {
   to-end = omega arith;
   eight = refl;
   before = λ l h. let z : l ≡ 0 = omega arith in rw z clock;
+  imaged = λ x m l h. let z : l ≡ 0 = omega arith in rw z (clock-imaged n (timesIn times) x);
+}
+
+-- no set is met yet
+zeros : (n i : ℕ) → _≡_ {A = ℕ} (getD (replicate n 0) i 0) 0
+zeros zero i = refl
+zeros (suc n) zero = refl
+zeros (suc n) (suc i) = zeros n i
+
+pub none-noted : {n : ℕ} {times zone seen : List ℤ} {kept : List Matrix} → length seen ≡ 65536 → Noted n times zone kept seen (replicate 8 0)
+none-noted e = record {
+  tables = record { seen-size = e; counts-size = refl; few = λ i. omega (arith, zeros 8 i) };
+  covered = λ i c h. absurd (omega (arith, zeros 8 i));
 }
 
 pub preimages : (n : ℕ) (a : List Time) (d : Matrix) → extensions n a d (some (everything (suc n))) (take 1 no-cols) 1 (suc n - 1) ≡ map (preimage n a d) (selections n a n 1)

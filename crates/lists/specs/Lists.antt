@@ -1,21 +1,22 @@
 -- Lists of zones in memory, and how a list that is made anew is handed back.
-use Prim.Native.Nat.{ℕ, suc, _+_, _*_, _≤_, _<_}
+use Prim.Native.Nat.{ℕ, suc, _+_, _*_, _-_, _≤_, _<_}
 use mathlib.Core.Path.{_≡_}
 use mathlib.Core.Logic.{_⊎_}
 use mathlib.Core.Bool.{true, false, cond}
 use mathlib.Core.List.{List, [], map, foldl}
 use mathlib.Core.Option.{Option, none, some}
 use lib.IntN.{ℤ, natAbs}
-use lib.ListN.{length, take, drop}
-use Rattle.model.specs.Lists.{tabulate}
-use Rattle.model.specs.Matrix.{Matrix, entry, constrain}
+use lib.ListN.{length, take, drop, getD}
+use Rattle.model.specs.Lists.{tabulate, anyOf}
+use Rattle.model.specs.Matrix.{Matrix, entry, constrain, sameMatrix}
 use Rattle.model.specs.Bound.{most}
 use Rattle.model.specs.Pattern.{pairBound}
 use Rattle.model.specs.Answers.{sevenTimes}
 use Rattle.model.specs.Network.{Time, time, isTime}
 use Rattle.model.specs.Search.{selections, rowConstraints, rowsConstraints, pick}
-use Rattle.model.proofs.Listed.{Every}
+use Rattle.model.proofs.Listed.{Every, Some}
 use Rattle.model.proofs.Selections.{Cols}
+use Rattle.model.proofs.Images.{Imaged, Before}
 use Rattle.model.proofs.Size.{Small}
 use Rattle.model.proofs.Sizes.{Made, TimesSmall}
 use Rattle.zones.specs.Memory.{boundsIn, timesIn}
@@ -75,6 +76,43 @@ pub record Selecting (n : ℕ) (times zone part : List ℤ) (cols : List ℕ) (i
   pub to-end : i ≤ suc n
   pub eight : length cols ≡ 8
   pub before : Cols n (timesIn times) cols i
+  pub imaged : Imaged n (timesIn times) (partIn n part) cols i
+
+-- ---- the sets met
+-- those noted after row i: zones 128 i and on of seen, as many as counts says
+abbrev pub metIn : ℕ → List ℤ → List ℕ → ℕ → List Matrix
+metIn size seen counts i = tabulate (getD counts i 0) (i * 128) (zoneAt size seen)
+
+pub record Tables (seen : List ℤ) (counts : List ℕ) : Type 0 where
+  pub seen-size : length seen ≡ 65536
+  pub counts-size : length counts ≡ 8
+  pub few : (i : ℕ) → getD counts i 0 ≤ 128
+
+-- a set, if it is none of zs
+unfoldable pub unmet : List Matrix → Option Matrix → Option Matrix
+unmet zs none = none
+unmet zs (some z) = cond (anyOf (sameMatrix z) zs) none (some z)
+
+-- each set noted after a row was noted there before, or the row is i and the set z
+pub record Noting (size i : ℕ) (z : Matrix) (seen seen′ : List ℤ) (counts counts′ : List ℕ) : Type 0 where
+  pub tables : Tables seen′ counts′
+  pub each : (j c : ℕ) → c < getD counts′ j 0
+      → ((c < getD counts j 0) × (zoneAt size seen′ (j * 128 + c) ≡ zoneAt size seen (j * 128 + c))) ⊎ ((j ≡ i) × (zoneAt size seen′ (j * 128 + c) ≡ z))
+
+-- a set that is in kept, or none
+abbrev pub Old : List Matrix → Option Matrix → Type 0
+Old kept o = (z : Matrix) → o ≡ some z → Some (λ y. y ≡ z) kept
+
+-- all that the rows from row i on make of p, with some columns in the rows before, is in kept
+pub record Covered (n : ℕ) (a : List Time) (d : Matrix) (kept : List Matrix) (i : ℕ) (p : Matrix) : Type 0 where
+  pub cols : List ℕ
+  pub before : Before n a p cols i
+  pub listed : Every (Old kept) (extensions n a d (some p) cols i (suc n - i))
+
+-- so it is for each set noted
+pub record Noted (n : ℕ) (times zone : List ℤ) (kept : List Matrix) (seen : List ℤ) (counts : List ℕ) : Type 0 where
+  pub tables : Tables seen counts
+  pub covered : (i c : ℕ) → c < getD counts i 0 → Covered n (timesIn times) (boundsIn zone) kept (i + 1) (zoneAt ((n + 1) * (n + 1)) seen (i * 128 + c))
 
 -- the zones of a list may be pulled back: each is made of constraints of at most L, so that its entries are at most n * L in size
 pub record Sources (n : ℕ) (times : List ℤ) (zs : List Matrix) : Type 0 where

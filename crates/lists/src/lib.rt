@@ -1,22 +1,28 @@
 // Lists of zones in the workspace.
 ghost use mathlib.Core.Path.{_≡_};
-ghost use mathlib.Core.Bool.{_&&_};
-ghost use mathlib.Core.Option.{none, some};
+ghost use mathlib.Core.Option.{some};
+ghost use mathlib.Core.Bool.{false};
 ghost use Prim.Native.Nat.{suc, _+_, _*_, _-_, _≤_, _<_};
 ghost use mathlib.Core.List.{[], _∷_, map, foldl};
 ghost use lib.ListN.{length, take, drop, set};
 ghost use lib.Seq.{paste};
-ghost use Rattle.model.specs.Lists.{anyOf};
+ghost use Rattle.model.specs.Lists.{tabulate, anyOf};
 ghost use Rattle.model.specs.Bound.{sameZ};
 ghost use Rattle.model.specs.Matrix.{sameMatrix, everything, tighten};
 ghost use Rattle.model.specs.Pattern.{patternConstraints};
 ghost use Rattle.model.specs.Search.{keep, preimage, selections, previous, common, firstCommon};
 ghost use Rattle.zones.specs.Memory.{boundsIn, timesIn};
 ghost use Rattle.zones.specs.Conditions.{Left, CommonReady};
-ghost use Rattle.lists.specs.Lists.{zoneAt, listIn, Holds, Room, extensions, withColumn, partIn, Selecting, Sources, Halves, Meets, Meeting, foundBy};
+ghost use Rattle.lists.specs.Lists.{zoneAt, listIn, Holds, Room, extensions, withColumn, partIn, Selecting, metIn, unmet, Tables, Noting, Noted, Sources, Halves, Meets, Meeting, foundBy};
 use ints::Seconds;
 use model::DEPARTURES;
 use zones::NONE;
+
+// How many sets can be noted after each row.
+const SETS: usize = 128;
+
+// The numbers of the table in which they are kept.
+pub const SEEN: usize = 8 * SETS * 64;
 
 // A list made anew: its length, or that it has no room.
 pub struct Built {
@@ -37,13 +43,15 @@ fn equal(a: i32, b: i32) -> bool
     a == b
 }
 
-// Zone k of the list is this one.
+// Zone k of the list is this one. The last bounds are compared first: the first ones are the clock's, and more often equal.
 fn same(list: &[i32], k: usize, zone: &[i32], size: usize) -> bool
     requires { ⌜ (length (now zone) ≡ size) × (size ≤ 64) × (k < 4096) × (k * size + size ≤ length (now list)) ⌝ }
     ensures { λ r. ⌜ r ≡ sameMatrix (boundsIn (now (zone .entry))) (zoneAt size (now (list .entry)) k) ⌝ }
 {
     let base = k * size;
-    for p in 0..size {
+    let mut p = size;
+    while 0 < p {
+        p -= 1;
         let a = zone[p];
         let b = list[base + p];
         if !equal(a, b) {
@@ -53,12 +61,12 @@ fn same(list: &[i32], k: usize, zone: &[i32], size: usize) -> bool
     true
 }
 
-// Some zone of the list is this one.
-fn has(list: &[i32], count: usize, zone: &[i32], size: usize) -> bool
-    requires { ⌜ (length (now zone) ≡ size) × (size ≤ 64) × (count ≤ 4096) × (count * size ≤ length (now list)) ⌝ }
-    ensures { λ r. ⌜ r ≡ anyOf (sameMatrix (boundsIn (now (zone .entry)))) (listIn size count (now (list .entry))) ⌝ }
+// Some zone of the list, from zone first on and before zone end, is this one.
+fn has(list: &[i32], first: usize, end: usize, zone: &[i32], size: usize) -> bool
+    requires { ⌜ (length (now zone) ≡ size) × (size ≤ 64) × (first ≤ end) × (end ≤ 4096) × (end * size ≤ length (now list)) ⌝ }
+    ensures { λ r. ⌜ r ≡ anyOf (sameMatrix (boundsIn (now (zone .entry)))) (tabulate (end - first) first (zoneAt size (now (list .entry)))) ⌝ }
 {
-    for k in 0..count {
+    for k in first..end {
         if same(list, k, zone, size) {
             return true;
         }
@@ -83,7 +91,7 @@ fn keep(list: &mut [i32], count: usize, capacity: usize, zone: &[i32], size: usi
     requires { ⌜ Room size capacity count (now list) × (length (now zone) ≡ size) ⌝ }
     ensures { λ r. ⌜ Holds size capacity (keep (listIn size count (now (list .entry))) (some (boundsIn (now (zone .entry))))) r (now (list .entry)) (now (list .exit)) ⌝ }
 {
-    if has(list, count, zone, size) {
+    if has(list, 0, count, zone, size) {
         return Built { count, full: false };
     }
     if count == capacity {
@@ -129,56 +137,101 @@ fn with_column(
     Part { some, zone: next }
 }
 
-// Column s is that of row i.
-fn picked(cols: [usize; 8], i: usize, s: usize) -> [usize; 8]
-    requires { ⌜ (i < 8) × (length cols ≡ 8) ⌝ }
-    ensures { λ r. ⌜ r ≡ set cols i s ⌝ }
-{
-    let mut more = cols;
-    more[i] = s;
-    more
+// The start of a selection: the columns of the rows before row i, and the set that they leave.
+struct Prefix {
+    part: [i32; 64],
+    cols: [usize; 8],
+    n: usize,
+    i: usize,
 }
 
-// The sets of the selections with these columns in the rows before i, and any in rows i to n, put to the list.
+// One row more: column s of row i, which leaves the set next.
+fn picked(p: Prefix, next: [i32; 64], s: usize) -> Prefix
+    requires { ⌜ (p .i < 8) × (length (p .cols) ≡ 8) ⌝ }
+    ensures { λ r. ⌜ r ≡ record { part = next; cols = set (p .cols) (p .i) s; n = p .n; i = p .i + 1 } ⌝ }
+{
+    let i = p.i;
+    let mut cols = p.cols;
+    cols[i] = s;
+    Prefix {
+        part: next,
+        cols,
+        n: p.n,
+        i: i + 1,
+    }
+}
+
+// What column s of row i leaves of a set, unless it is one of those noted after that row.
+fn fresh(p: Prefix, times: &[i32], zone: &[i32], seen: &[i32], counts: &[usize], s: usize) -> Part
+    requires { ⌜ Selecting (p .n) (now times) (now zone) (p .part) (p .cols) (p .i) × (p .i ≤ p .n) × (1 ≤ s) × (s ≤ p .n) × Tables (now seen) (now counts) ⌝ }
+    ensures { λ r. ⌜ Left (unmet (metIn ((p .n + 1) * (p .n + 1)) (now (seen .entry)) (now (counts .entry)) (p .i)) (withColumn (p .n) (timesIn (now (times .entry))) (boundsIn (now (zone .entry))) (partIn (p .n) (p .part)) (p .cols) (p .i) s)) (r .some) (take ((p .n + 1) * (p .n + 1)) (r .zone)) × (length (r .zone) ≡ 64) ⌝ }
+{
+    let part = p.part;
+    let cols = p.cols;
+    let n = p.n;
+    let i = p.i;
+    let next = with_column(part, times, zone, cols, n, i, s);
+    if !next.some {
+        return next;
+    }
+    let size = (n + 1) * (n + 1);
+    let set = next.zone;
+    let first = i * SETS;
+    let count = counts[i];
+    let old = has(seen, first, first + count, &set[..size], size);
+    Part {
+        some: !old,
+        zone: set,
+    }
+}
+
+// The set is noted after row i, if there is room: whatever further rows make of it is in the list. None are noted after the last row.
+fn note(seen: &mut [i32], counts: &mut [usize], zone: [i32; 64], n: usize, i: usize)
+    requires { ⌜ Tables (now seen) (now counts) × (length zone ≡ 64) × (n ≤ 7) × (i ≤ n) ⌝ }
+    ensures { λ r. ⌜ Noting ((n + 1) * (n + 1)) i (partIn n zone) (now (seen .entry)) (now (seen .exit)) (now (counts .entry)) (now (counts .exit)) ⌝ }
+{
+    let count = counts[i];
+    if n <= i || SETS <= count {
+        return;
+    }
+    let size = (n + 1) * (n + 1);
+    store(seen, i * SETS + count, &zone[..size], size);
+    counts[i] = count + 1;
+}
+
+// The sets of the selections that start so, with any columns in rows i to n, put to the list. A set noted after its row would add nothing.
 fn select(
     list: &mut [i32],
     count: usize,
     capacity: usize,
     times: &[i32],
     zone: &[i32],
-    part: [i32; 64],
-    cols: [usize; 8],
-    n: usize,
-    i: usize,
+    seen: &mut [i32],
+    counts: &mut [usize],
+    p: Prefix,
 ) -> Built
-    requires { ⌜ Room ((n + 1) * (n + 1)) capacity count (now list) × Selecting n (now times) (now zone) part cols i ⌝ }
-    ensures { λ r. ⌜ Holds ((n + 1) * (n + 1)) capacity (foldl keep (listIn ((n + 1) * (n + 1)) count (now (list .entry))) (extensions n (timesIn (now (times .entry))) (boundsIn (now (zone .entry))) (some (partIn n part)) (take i cols) i (suc n - i))) r (now (list .entry)) (now (list .exit)) ⌝ }
+    requires { ⌜ Room ((p .n + 1) * (p .n + 1)) capacity count (now list) × Selecting (p .n) (now times) (now zone) (p .part) (p .cols) (p .i) × Noted (p .n) (now times) (now zone) (listIn ((p .n + 1) * (p .n + 1)) count (now list)) (now seen) (now counts) ⌝ }
+    ensures { λ r. ⌜ Holds ((p .n + 1) * (p .n + 1)) capacity (foldl keep (listIn ((p .n + 1) * (p .n + 1)) count (now (list .entry))) (extensions (p .n) (timesIn (now (times .entry))) (boundsIn (now (zone .entry))) (some (partIn (p .n) (p .part))) (take (p .i) (p .cols)) (p .i) (suc (p .n) - p .i))) r (now (list .entry)) (now (list .exit)) × (r .full ≡ false → Noted (p .n) (now (times .entry)) (now (zone .entry)) (listIn ((p .n + 1) * (p .n + 1)) (r .count) (now (list .exit))) (now (seen .exit)) (now (counts .exit))) ⌝ }
 {
+    let n = p.n;
+    let i = p.i;
     let size = (n + 1) * (n + 1);
     if n < i {
+        let part = p.part;
         return keep(list, count, capacity, &part[..size], size);
     }
     let mut built = Built { count, full: false };
     let mut s = 1;
     while s <= n {
-        let next = with_column(part, times, zone, cols, n, i, s);
+        let next = fresh(p, times, zone, seen, counts, s);
         if next.some {
-            let more = picked(cols, i, s);
             let set = next.zone;
-            built = select(
-                list,
-                built.count,
-                capacity,
-                times,
-                zone,
-                set,
-                more,
-                n,
-                i + 1,
-            );
+            let more = picked(p, set, s);
+            built = select(list, built.count, capacity, times, zone, seen, counts, more);
             if built.full {
                 return built;
             }
+            note(seen, counts, set, n, i);
         }
         s += 1;
     }
@@ -227,24 +280,31 @@ fn pull_back(
     capacity: usize,
     times: &[i32],
     zone: [i32; 64],
+    seen: &mut [i32],
     n: usize,
 ) -> Built
-    requires { ⌜ Room ((n + 1) * (n + 1)) capacity count (now list) × Sources n (now times) (partIn n zone ∷ []) × (length zone ≡ 64) ⌝ }
+    requires { ⌜ Room ((n + 1) * (n + 1)) capacity count (now list) × Sources n (now times) (partIn n zone ∷ []) × (length zone ≡ 64) × (length (now seen) ≡ 65536) ⌝ }
     ensures { λ r. ⌜ Holds ((n + 1) * (n + 1)) capacity (foldl keep (listIn ((n + 1) * (n + 1)) count (now (list .entry))) (map (preimage n (timesIn (now (times .entry))) (partIn n zone)) (selections n (timesIn (now (times .entry))) n 1))) r (now (list .entry)) (now (list .exit)) ⌝ }
 {
     let size = (n + 1) * (n + 1);
     let part = all_times(n);
     let cols = [0usize; 8];
+    let mut counts = [0usize; 8];
+    let p = Prefix {
+        part,
+        cols,
+        n,
+        i: 1,
+    };
     select(
         list,
         count,
         capacity,
         times,
         &zone[..size],
-        part,
-        cols,
-        n,
-        1,
+        seen,
+        &mut counts,
+        p,
     )
 }
 
@@ -256,9 +316,10 @@ pub fn next_list(
     count: usize,
     capacity: usize,
     times: &[i32],
+    seen: &mut [i32],
     n: usize,
 ) -> Built
-    requires { ⌜ Halves n capacity source goal (now work) × (count ≤ capacity) × Sources n (now times) (listIn ((n + 1) * (n + 1)) count (drop source (now work))) ⌝ }
+    requires { ⌜ Halves n capacity source goal (now work) × (count ≤ capacity) × Sources n (now times) (listIn ((n + 1) * (n + 1)) count (drop source (now work))) × (length (now seen) ≡ 65536) ⌝ }
     ensures { λ r. ⌜ Holds ((n + 1) * (n + 1)) capacity (previous n (timesIn (now (times .entry))) (listIn ((n + 1) * (n + 1)) count (drop source (now (work .entry))))) r (drop goal (now (work .entry))) (drop goal (now (work .exit))) × (take goal (now (work .exit)) ≡ take goal (now (work .entry))) ⌝ }
 {
     let size = (n + 1) * (n + 1);
@@ -268,7 +329,15 @@ pub fn next_list(
     };
     for k in 0..count {
         let zone = load(work, source + k * size, size);
-        built = pull_back(&mut work[goal..], built.count, capacity, times, zone, n);
+        built = pull_back(
+            &mut work[goal..],
+            built.count,
+            capacity,
+            times,
+            zone,
+            seen,
+            n,
+        );
         if built.full {
             return built;
         }

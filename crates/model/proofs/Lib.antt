@@ -14,6 +14,7 @@ pub mod Stored
 pub mod MaxPlus
 pub mod Selections
 pub mod Preimage
+pub mod Images
 pub mod Kept
 pub mod Cycles
 pub mod Powers

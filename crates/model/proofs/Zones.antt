@@ -5,8 +5,9 @@ use mathlib.Core.Logic.{_↔_}
 use mathlib.Core.List.{List, _∷_, foldl}
 use mathlib.Core.Option.{Option, none, some}
 use lib.IntN.{ℤ, _-ℤ_}
-use Rattle.model.specs.Bound.{Bound, Holds}
-use Rattle.model.specs.Matrix.{Matrix, Constraint, constrain, tighten}
+use Rattle.model.specs.Bound.{Bound, LeB, Holds}
+use Rattle.model.specs.Matrix.{Matrix, entry, Constraint, constrain, tighten}
+use Rattle.model.proofs.Bounds.{leB-trans}
 use Rattle.model.proofs.Listed.{Every, done, both}
 use Rattle.model.proofs.Closed.{Closed, Within, within-is, within-closed, everything-closed}
 use Rattle.model.proofs.Attained.{has-member}
@@ -71,6 +72,12 @@ module _ (m : ℕ) where
   unfolding constrain
   constrain-in empty f x = (λ h. absurd h, λ h. h .0)
   constrain-in {k} (closed {d} cl) f x = within-in cl (f .row-fits) (f .col-fits) (within-is m d (k .row) (k .col) (k .limit)) x
+
+  -- one that the matrix implies changes nothing
+  pub constrain-implied : {d : Matrix} {k : Constraint} → Closed m d → Fits m k → LeB (entry m d (k .row) (k .col)) (k .limit) → constrain m (some d) k ≡ some d
+  constrain-implied cl f le = same-zones (constrain-closed (closed cl) f) (closed cl) (λ x.
+      let now = constrain-in (closed cl) f x in
+      (λ h. now .0 h .0, λ h. now .1 (h, leB-trans (h _ _ (f .row-fits) (f .col-fits)) le)))
 
   -- a list of them
   pub all-closed : {ks : List Constraint} {o : Option Matrix} → ClosedZone m o → Every (Fits m) ks → ClosedZone m (foldl (constrain m) o ks)

@@ -3,16 +3,15 @@ use Prim.Native.Nat.{ℕ, _+_, _*_, _≤_, _<_}
 use native.Mathlib.Omega.{arith}
 use native.Mathlib.Decide.{ℕ-discrete}
 use native.Mathlib.Numerals.{add-one}
-use mathlib.Core.Path.{_≡_, refl, sym, ap₂, _∙_}
+use mathlib.Core.Path.{_≡_, refl, ap₂, _∙_}
 use mathlib.Core.List.{List}
 use mathlib.Core.Bool.{Bool}
 use lib.IntN.{ℤ}
 use lib.ListN.{length, getD}
 use Rattle.model.specs.Network.{Time, blank, product}
 use Rattle.model.proofs.Listed.{Every}
-use Rattle.model.proofs.Tabulated.{tabulate-ext}
-use Rattle.model.proofs.Powers.{power, powersFrom-is}
-use Rattle.powers.specs.Readings.{departures, entries, entryAt, powerIn, powersIn, Whole, Stored, AtMost, Power, Made, Filled}
+use Rattle.model.proofs.Powers.{power}
+use Rattle.powers.specs.Readings.{departures, entries, entryAt, powerIn, Whole, Stored, AtMost, Power, Made}
 use Rattle.powers.proofs.Bounded.{powers-small}
 use Rattle.powers.proofs.Places.{power-is, power-kept}
 
@@ -74,10 +73,3 @@ module _ (n : ℕ) (few : n ≤ departures) (a : List Time) (r : ℕ) (vs : List
       go : (s : ℕ) → s ≤ r + 1 → Dec (s ≡ r + 1) → powerIn n vs′ ps′ s ≡ power n a s
       go s h (yes e) = rw e (m .next ∙ ap₂ (product n) (p .powers 0 (omega arith)) (p .powers r (omega arith)) ∙ power-next n a r)
       go s h (no ne) = power-kept n vs vs′ ps ps′ s ((r + 1) * entries) few (omega arith) (m .kept) ∙ p .powers s (omega arith)
-
-  pub filled : Every (AtMost 86400) a → r ≡ 63 → Filled n a vs ps
-  unfolding powersIn power
-  filled small e = record {
-    are = tabulate-ext 64 0 (powerIn n vs ps) (power n a) (λ s _ u. p .powers s (omega arith)) ∙ sym (powersFrom-is n a 64 0);
-    each = λ s h. each-ready small s (omega arith) h;
-  }

@@ -4,3 +4,4 @@ pub mod Products
 pub mod Places
 pub mod Filling
 pub mod Turns
+pub mod Repeating

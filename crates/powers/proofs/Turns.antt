@@ -13,7 +13,6 @@ use Rattle.model.specs.Lists.{tabulate, sameLists}
 use Rattle.model.specs.Network.{Time, blank, secs, after, added, gap, sameTime, Repeat, repeats, firstRepeat}
 use Rattle.model.specs.Faults.{timeOf}
 use Rattle.model.proofs.Same.{and-true}
-use Rattle.model.proofs.Tabulated.{tabulate-snoc}
 use Rattle.powers.specs.Readings.{entries, entryAt, powerIn, powersIn, alike}
 
 -- what is left of f x, f (x + 1), .., m of them, after k
@@ -21,21 +20,21 @@ unfoldable pub rest {ℓ} : {X : Type ℓ} → (ℕ → X) → ℕ → ℕ → �
 rest f m x k = tabulate (m - k) (x + k) f
 
 module _ {ℓ} {X : Type ℓ} (f : ℕ → X) (m x : ℕ) where
-  rest-all : tabulate m x f ≡ rest f m x 0
+  pub rest-all : tabulate m x f ≡ rest f m x 0
   unfolding rest
   rest-all =
       let e : m - 0 ≡ m = omega arith in
       let d : x + 0 ≡ x = omega arith in
       rw (e, d)
 
-  rest-turn : (k : ℕ) → k < m → rest f m x k ≡ f (x + k) ∷ rest f m x (k + 1)
+  pub rest-turn : (k : ℕ) → k < m → rest f m x k ≡ f (x + k) ∷ rest f m x (k + 1)
   unfolding rest tabulate
   rest-turn k h =
       let e : m - k ≡ suc (m - (k + 1)) = omega arith in
       let d : suc (x + k) ≡ x + (k + 1) = omega arith in
       rw e (ap (λ (y : ℕ). f (x + k) ∷ tabulate (m - (k + 1)) y f) d)
 
-  rest-end : (k : ℕ) → m ≤ k → rest f m x k ≡ []
+  pub rest-end : (k : ℕ) → m ≤ k → rest f m x k ≡ []
   unfolding rest tabulate
   rest-end k h = let e : m - k ≡ 0 = omega arith in rw e
 
@@ -88,10 +87,6 @@ pub gap-end : gap [] [] ≡ pos 0
 unfolding gap
 gap-end = refl
 
-pub powers-none : (n : ℕ) (vs : List ℤ) (ps : List Bool) → powersIn n vs ps 0 ≡ []
-unfolding powersIn tabulate
-powers-none n vs ps = refl
-
 -- ---- the earlier powers from power p + 1 on, and the search through them
 module _ (n : ℕ) (vs : List ℤ) (ps : List Bool) (m : ℕ) where
   abbrev pub powersLeft : ℕ → List (List Time)
@@ -106,12 +101,6 @@ module _ (n : ℕ) (vs : List ℤ) (ps : List Bool) (m : ℕ) where
 
   pub powers-end : (p : ℕ) → m ≤ p → powersLeft p ≡ []
   powers-end p h = rest-end (powerIn n vs ps) m 0 p h
-
-  pub powers-more : powersIn n vs ps m ++ (powerIn n vs ps m ∷ []) ≡ powersIn n vs ps (m + 1)
-  unfolding powersIn
-  powers-more =
-      rw add-one
-      (ap (λ (r : ℕ). tabulate m 0 (powerIn n vs ps) ++ (powerIn n vs ps r ∷ [])) (sym (zero-add m)) ∙ tabulate-snoc m 0 (powerIn n vs ps))
 
 module _ (q p : ℕ) (a b : List Time) (more : List (List Time)) where
   pub repeats-stops : alike (gap a b) a b ≡ true → {z : ℤ} → z ≡ gap a b → repeats q p (a ∷ more) b ≡ some (record { q = q; p = p; number = z })

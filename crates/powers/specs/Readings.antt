@@ -9,7 +9,7 @@ use mathlib.Core.Option.{Option, none, some}
 use mathlib.Core.Bool.{Bool, false, cond}
 use Rattle.model.specs.declared.Slot.{Slot}
 use Rattle.model.specs.Lists.{tabulate, sameLists}
-use Rattle.model.specs.Network.{Time, blank, secs, product, powersFrom, added, sameTime, Repeat}
+use Rattle.model.specs.Network.{Time, blank, secs, product, added, sameTime, Repeat}
 use Rattle.model.specs.Faults.{timeOf}
 use Rattle.model.proofs.Listed.{Every}
 use Rattle.model.proofs.Sizes.{TimesSmall}
@@ -94,8 +94,3 @@ pub record Made (n : ℕ) (vs : List ℤ) (ps : List Bool) (r : ℕ) (vs′ : Li
   pub whole : Whole vs′ ps′
   pub next : powerIn n vs′ ps′ (r + 1) ≡ productIn n vs ps r
   pub kept : (k : ℕ) → k < (r + 1) * entries → entryAt vs′ ps′ k ≡ entryAt vs ps k
-
--- sixty-four powers of the table a
-pub record Filled (n : ℕ) (a : List Time) (vs : List ℤ) (ps : List Bool) : Type 0 where
-  pub are : powersIn n vs ps 64 ≡ powersFrom 64 n a a
-  pub each : (r : ℕ) → r < 64 → Power n vs ps r

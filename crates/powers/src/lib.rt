@@ -1,5 +1,5 @@
-// The first repeated power of a table. All sixty-four powers are kept side by side in two flat arrays, made by a repeat expression: times, and
-// which of them are there. Power r + 1 stands from place r * TIMES on, by rows for n, whatever n is, so that places are linear in r. Where an
+// The first repeated power of a table. There is room for all sixty-four powers, side by side in two flat arrays, made by a repeat expression:
+// times, and which of them are there. Power r + 1 stands from place r * TIMES on, by rows for n, whatever n is, so that places are linear in r. Where an
 // entry is not there its number is 0 and is never looked at.
 ghost use mathlib.Core.Path.{_≡_};
 ghost use mathlib.Core.List.{[]};
@@ -11,7 +11,7 @@ ghost use Rattle.model.specs.Network.{blank, sameTime, powersFrom, firstRepeat}
 ghost use Rattle.model.specs.Faults.{timeOf};
 ghost use Rattle.model.proofs.Listed.{Every};
 ghost use Rattle.powers.specs.Readings.{departures, entries, apart, entryAt, powerIn, powersIn, productIn, alike, repeatRead, tableOf};
-ghost use Rattle.powers.specs.Readings.{Whole, Stored, AtMost, Power, Made, Filled, Ready};
+ghost use Rattle.powers.specs.Readings.{Whole, Stored, AtMost, Power, Made, Ready};
 use ints::Seconds;
 use model::Slot;
 use model::TIMES;
@@ -151,15 +151,6 @@ fn next_power(values: &mut [i64; PLACES], present: &mut [bool; PLACES], n: usize
     }
 }
 
-fn all_powers(values: &mut [i64; PLACES], present: &mut [bool; PLACES], n: usize)
-    requires { ⌜ Whole (now values) (now present) × (n ≤ departures) × Every (AtMost 86400) (powerIn n (now values) (now present) 0) ⌝ }
-    ensures { λ _. ⌜ Filled n (powerIn n (now (values .entry)) (now (present .entry)) 0) (now (values .exit)) (now (present .exit)) ⌝ }
-{
-    for r in 0..POWERS - 1 {
-        next_power(values, present, n, r);
-    }
-}
-
 // What is added to the first time of power p + 1 that power q + 1 holds too, to give that of power q + 1.
 fn gap(values: &[i64; PLACES], present: &[bool; PLACES], n: usize, p: usize, q: usize) -> Seconds
     requires { ⌜ Power n (now values) (now present) p × Power n (now values) (now present) q ⌝ }
@@ -224,13 +215,15 @@ fn repeats(values: &[i64; PLACES], present: &[bool; PLACES], n: usize, q: usize)
     Repeated::None
 }
 
-// The first power that repeats an earlier one.
-fn first_among(values: &[i64; PLACES], present: &[bool; PLACES], n: usize) -> Repeated
-    requires { ⌜ ((r : ℕ) → r < 64 → Power n (now values) (now present) r) ⌝ }
-    ensures { λ r. ⌜ repeatRead r ≡ firstRepeat 1 [] (powersIn n (now (values .entry)) (now (present .entry)) 64) ⌝ }
+// The powers are made of power 1, one after the other, until one repeats an earlier one.
+fn first_among(values: &mut [i64; PLACES], present: &mut [bool; PLACES], n: usize) -> Repeated
+    requires { ⌜ Whole (now values) (now present) × (n ≤ departures) × Every (AtMost 86400) (powerIn n (now values) (now present) 0) ⌝ }
+    ensures { λ r. ⌜ repeatRead r ≡ firstRepeat 1 [] (powersFrom 64 n (powerIn n (now (values .entry)) (now (present .entry)) 0)
+        (powerIn n (now (values .entry)) (now (present .entry)) 0)) ⌝ }
 {
-    for q in 0..POWERS {
-        let found = repeats(values, present, n, q);
+    for r in 0..POWERS - 1 {
+        next_power(values, present, n, r);
+        let found = repeats(values, present, n, r + 1);
         if let Repeated::At(_) = found {
             return found;
         }
@@ -246,6 +239,5 @@ pub fn first_repeat(times: [Slot; TIMES], n: usize) -> Repeated
     let mut values = [0i64; PLACES];
     let mut present = [false; PLACES];
     load(&mut values, &mut present, times, n);
-    all_powers(&mut values, &mut present, n);
-    first_among(&values, &present, n)
+    first_among(&mut values, &mut present, n)
 }

@@ -53,13 +53,14 @@ fn one_cycle(
     capacity: usize,
     times: &[i32],
     start: &[i32],
+    seen: &mut [i32],
     n: usize,
     k: usize,
 ) -> Step
-    requires { ⌜ Stepping n capacity source goal count (now work) (now times) (now start) ⌝ }
+    requires { ⌜ Stepping n capacity source goal count (now work) (now times) (now start) × (length (now seen) ≡ 65536) ⌝ }
     ensures { λ r. ⌜ Stepped n capacity k goal (boundsIn (now (start .entry))) (previous n (timesIn (now (times .entry))) (listIn ((n + 1) * (n + 1)) count (drop source (now (work .entry))))) (now (work .exit)) r ⌝ }
 {
-    let built = lists::next_list(work, source, goal, count, capacity, times, n);
+    let built = lists::next_list(work, source, goal, count, capacity, times, seen, n);
     if built.full {
         let answer = plain(Verdict::Refused(Fault::TableFull(Cycle(k))));
         return settled(answer);
@@ -97,12 +98,24 @@ pub fn search(
 {
     let half = capacity * ((n + 1) * (n + 1));
     let mut count = lists::first_list(work, target, n);
+    let mut seen = [0i32; lists::SEEN];
     let mut source = 0;
     let mut k = 0;
     while k < cycles {
         let goal = half - source;
         k += 1;
-        let next = one_cycle(work, source, goal, count, capacity, times, start, n, k);
+        let next = one_cycle(
+            work,
+            source,
+            goal,
+            count,
+            capacity,
+            times,
+            start,
+            &mut seen,
+            n,
+            k,
+        );
         if next.ended {
             return next.answer;
         }

@@ -2,16 +2,17 @@
 use Prim.Native.Nat.{ℕ, suc, _+_, _*_, _≤_, _<_}
 use native.Mathlib.Omega.{arith}
 use native.Mathlib.Decide.{decLt}
-use mathlib.Core.Path.{_≡_, _∙_}
+use mathlib.Core.Path.{_≡_, refl, _∙_}
 use mathlib.Core.List.{List}
 use mathlib.Core.Option.{some}
 use mathlib.Core.Bool.{true, false}
 use lib.IntN.{ℤ}
 use lib.ListN.{length}
-use Rattle.model.specs.Bound.{Bound, most, plus, tighter, negative}
+use Rattle.model.specs.Bound.{Bound, most, LeB, plus, tighter, negative}
 use Rattle.model.specs.Matrix.{Matrix, entry, relaxed, within, constrain}
 use Rattle.model.proofs.Bounds.{leB-refl, plus-mono, plus-zero, tighter-of-le, negative-false}
 use Rattle.model.proofs.Entries.{entry-matrix}
+use Rattle.model.proofs.Zones.{constrain-implied}
 use Rattle.model.proofs.Size.{Small, small-mono}
 use Rattle.model.proofs.Sizes.{made-small, made-all}
 use Rattle.zones.specs.Memory.{boundsIn}
@@ -19,7 +20,7 @@ use Rattle.zones.specs.Conditions.{gone, kept}
 use Rattle.zones.specs.Inner.{Taking, Taken, limited, across, RowIn, RowFilled, Largest, InMemory}
 use Rattle.zones.proofs.Places.{bounds-size}
 use Rattle.zones.proofs.Fills.{Filled, rows-step, rows-done}
-use Rattle.zones.proofs.ReadyZones.{zone-size, limit-small}
+use Rattle.zones.proofs.ReadyZones.{zone-closed, zone-size, limit-small}
 use Rattle.zones.proofs.Toward.{head}
 
 -- entry (i, j), with the way by the new constraint
@@ -39,6 +40,10 @@ module _ {n : ℕ} {z : List ℤ} {a b : ℕ} {c : ℤ} (t : Taking n z (limited
 
   pub limit-in : Small InMemory (most c)
   limit-in = small-mono (omega (arith, limit-small (t .ready))) (head (t .small))
+
+  -- the zone implies it
+  pub all-left : LeB (entry (suc n) (boundsIn z) a b) (most c) → Taken n z (limited a b (most c)) true z
+  all-left le = rw (constrain-implied (suc n) (zone-closed (t .ready)) (head (t .fits)) le) (kept refl)
 
   -- no times are left
   pub none-left : {z′ : List ℤ} → negative (plus (entry (suc n) (boundsIn z) b a) (most c)) ≡ true → Taken n z (limited a b (most c)) false z′

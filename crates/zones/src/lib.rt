@@ -3,9 +3,10 @@
 ghost use mathlib.Core.Path.{_≡_};
 ghost use mathlib.Core.List.{foldl};
 ghost use mathlib.Core.Option.{some};
+ghost use mathlib.Core.Bool.{true};
 ghost use Prim.Native.Nat.{suc, _+_, _*_, _≤_, _<_};
 ghost use lib.ListN.{set};
-ghost use Rattle.model.specs.Bound.{most, plus, tighter, negative};
+ghost use Rattle.model.specs.Bound.{most, LeB, plus, tighter, negative};
 ghost use Rattle.model.specs.Matrix.{diagonal, everything, constrain};
 ghost use Rattle.model.specs.Pattern.{pairBound, patternConstraints};
 ghost use Rattle.model.specs.Network.{clocked};
@@ -100,6 +101,16 @@ impl Entry {
             Entry::Secs(a) => a.less(Seconds(0)),
         }
     }
+
+    // True only where all that keeps to this bound is at most c.
+    fn implies(self, c: Seconds) -> bool
+        ensures { λ r. ⌜ (r ≡ true → LeB (bound self) (most (c .0))) ⌝ }
+    {
+        match self {
+            Entry::Blank => false,
+            Entry::Secs(a) => a.at_most(c),
+        }
+    }
 }
 
 // The place of (i, j) in rows of m numbers.
@@ -129,11 +140,14 @@ fn put(zone: &mut [i32], n: usize, i: usize, j: usize, b: Entry)
     zone[k] = b.raw();
 }
 
-// Row i takes in what follows by way of row b; way bounds x(i) - x(b).
+// Row i takes in what follows by way of row b; way bounds x(i) - x(b), and where it is blank nothing follows.
 fn relax_row(zone: &mut [i32], n: usize, i: usize, b: usize, way: Entry)
     requires { ⌜ RowIn n (now zone) i b (bound way) ⌝ }
     ensures { λ r. ⌜ RowFilled n (boundsIn (now (zone .entry))) (boundsIn (now (zone .exit))) (across n (boundsIn (now (zone .entry))) i b (bound way)) i (suc n) ⌝ }
 {
+    if let Entry::Blank = way {
+        return;
+    }
     let mut j = 0;
     while j <= n {
         let old = bound_at(zone, n, i, j);
@@ -164,7 +178,7 @@ fn constrain(zone: &mut [i32], n: usize, a: usize, b: usize, c: Seconds) -> bool
     true
 }
 
-// The same, with a limit that may be blank.
+// The same, with a limit that may be blank. What the zone implies already changes nothing.
 fn take_in(zone: &mut [i32], n: usize, a: usize, b: usize, limit: Entry) -> bool
     requires { ⌜ Taking n (now zone) (limited a b (bound limit)) ⌝ }
     ensures { λ r. ⌜ Taken n (now (zone .entry)) (limited a b (bound limit)) r (now (zone .exit)) ⌝ }
@@ -172,6 +186,9 @@ fn take_in(zone: &mut [i32], n: usize, a: usize, b: usize, limit: Entry) -> bool
     let Entry::Secs(c) = limit else {
         return true;
     };
+    if bound_at(zone, n, a, b).implies(c) {
+        return true;
+    }
     constrain(zone, n, a, b, c)
 }
 

@@ -1,30 +1,26 @@
 -- Zone by zone: what is left of the list decides.
 use native.Mathlib.Omega.{arith}
 use native.Mathlib.Nat.{mul-le-mul-right, suc-mul}
-use Prim.Native.Nat.{ℕ, _+_, _-_, _≤_}
-use mathlib.Core.Path.{_≡_, sym, ap, _∙_}
+use Prim.Native.Nat.{_+_, _-_, _≤_}
+use mathlib.Core.Path.{_≡_, refl, sym, ap, _∙_}
 use mathlib.Core.Bool.{Bool, _||_}
 use Rattle.model.specs.Lists.{tabulate, anyOf}
 use Rattle.model.specs.Matrix.{sameMatrix}
 use Rattle.zones.specs.Memory.{boundsIn}
-use Rattle.lists.specs.Lists.{zoneAt, listIn}
+use Rattle.lists.specs.Lists.{zoneAt}
 use Rattle.lists.proofs.Memory.{any-next, any-end}
 use Rattle.lists.proofs.has.Statement.{statement}
 use Rattle.lists.proofs.has.Tie as tie
 
 abbrev Inv-loop : tie.InvT-loop
-Inv-loop list count zone size k₀ k =
-    (k ≤ count) × (anyOf (sameMatrix (boundsIn zone)) (listIn size count list) ≡ anyOf (sameMatrix (boundsIn zone)) (tabulate (count - k) k (zoneAt size list)))
+Inv-loop list first end zone size k₀ k =
+    (k ≤ end) × (anyOf (sameMatrix (boundsIn zone)) (tabulate (end - first) first (zoneAt size list)) ≡ anyOf (sameMatrix (boundsIn zone)) (tabulate (end - k) k (zoneAt size list)))
 
 abbrev μ-loop : tie.MeasureT-loop
-μ-loop list count zone size k₀ k = count - k
+μ-loop list first end zone size k₀ k = end - k
 
 loop-holds : tie.Need-loop-holds Inv-loop μ-loop
-unfolding listIn
-loop-holds c =
-    let a = c .args in
-    let e : a .count ≡ a .count - 0 = omega arith in
-    (omega arith, ap (λ (n : ℕ). anyOf (sameMatrix (boundsIn (a .zone .now))) (tabulate n 0 (zoneAt (a .size) (a .list .now)))) e)
+loop-holds c = (c .pre .2, refl)
 
 same-requires : tie.Need-same-requires Inv-loop μ-loop
 same-requires c κs =
@@ -37,16 +33,16 @@ abbrev rest : tie.After-same Inv-loop μ-loop → Bool
 rest c =
     let a = c .before .before .before .args in
     let k = c .before .before .loop .k in
-    anyOf (sameMatrix (boundsIn (a .zone .now))) (tabulate (a .count - (k + 1)) (k + 1) (zoneAt (a .size) (a .list .now)))
+    anyOf (sameMatrix (boundsIn (a .zone .now))) (tabulate (a .end - (k + 1)) (k + 1) (zoneAt (a .size) (a .list .now)))
 
 -- that one, and those
 step : (c : tie.After-same Inv-loop μ-loop) →
     let a = c .before .before .before .args in
-    anyOf (sameMatrix (boundsIn (a .zone .now))) (listIn (a .size) (a .count) (a .list .now)) ≡ (c .same .result || rest c)
+    anyOf (sameMatrix (boundsIn (a .zone .now))) (tabulate (a .end - a .first) (a .first) (zoneAt (a .size) (a .list .now))) ≡ (c .same .result || rest c)
 step c =
     let a = c .before .before .before .args in
     let l = c .before .before .loop in
-    l .inv .1 ∙ any-next (sameMatrix (boundsIn (a .zone .now))) (zoneAt (a .size) (a .list .now)) (a .count) (l .k) (c .before .loop-test .taken)
+    l .inv .1 ∙ any-next (sameMatrix (boundsIn (a .zone .now))) (zoneAt (a .size) (a .list .now)) (a .end) (l .k) (c .before .loop-test .taken)
     ∙ ap (λ (t : Bool). t || rest c) (sym (c .same .ensures))
 
 returns : tie.Need-returns Inv-loop μ-loop
@@ -65,7 +61,7 @@ returns-2 : tie.Need-returns-2 Inv-loop μ-loop
 returns-2 c =
     let a = c .before .before .args in
     let l = c .before .loop in
-    sym (l .inv .1 ∙ any-end (sameMatrix (boundsIn (a .zone .now))) (zoneAt (a .size) (a .list .now)) (a .count) (l .k) (c .loop-test .left))
+    sym (l .inv .1 ∙ any-end (sameMatrix (boundsIn (a .zone .now))) (zoneAt (a .size) (a .list .now)) (a .end) (l .k) (c .loop-test .left))
 
 pub has-spec : {M : Type 1} → statement M
 has-spec =

@@ -2,8 +2,12 @@
 use borrow.Author.Needs.{needs}
 use native.Mathlib.Omega.{arith}
 use native.Mathlib.Nat.{mul-le-mul-right, suc-mul}
-use Prim.Native.Nat.{_<_}
-use mathlib.Core.Path.{sym, _∙_}
+use Prim.Native.Nat.{_-_, _<_}
+use mathlib.Core.Path.{_≡_, sym, _∙_}
+use Rattle.model.specs.Lists.{anyOf}
+use Rattle.model.specs.Matrix.{sameMatrix}
+use Rattle.zones.specs.Memory.{boundsIn}
+use Rattle.lists.specs.Lists.{listIn}
 use Rattle.lists.proofs.Keeping.{holds-same, holds-full, holds-new}
 use Rattle.lists.proofs.keep.Statement.{statement}
 use Rattle.lists.proofs.keep.Tie as tie
@@ -13,6 +17,13 @@ has-requires c κs =
     let p = c .before .pre .0 in
     omega (arith, mul-le-mul-right (c .before .args .size) (p .inside))
 
+-- the test on all zones
+tested : (c : tie.After-has) →
+    let a = c .before .before .args in
+    c .has .result ≡ anyOf (sameMatrix (boundsIn (a .zone .now))) (listIn (a .size) (a .count) (a .list .now))
+unfolding listIn
+tested c = let e : c .before .before .args .count - 0 ≡ c .before .before .args .count = omega arith in rw e at (c .has .ensures)
+
 same-length : tie.Need-same-length
 same-length c = search needs
 
@@ -20,7 +31,7 @@ returns : tie.Need-returns
 returns c =
     let t = c .before .before .before in
     let a = t .args in
-    holds-same (a .size) (a .capacity) (a .count) (a .list .now) (t .pre .0) _ (sym (c .before .has .ensures) ∙ c .if1 .taken)
+    holds-same (a .size) (a .capacity) (a .count) (a .list .now) (t .pre .0) _ (sym (tested (c .before)) ∙ c .if1 .taken)
 
 same-length-2 : tie.Need-same-length-2
 same-length-2 c = search needs
@@ -29,7 +40,7 @@ returns-2 : tie.Need-returns-2
 returns-2 c =
     let t = c .before .before .before .before in
     let a = t .args in
-    holds-full (a .size) (a .capacity) (a .count) (a .list .now) (t .pre .0) _ (sym (c .before .before .has .ensures) ∙ c .before .if1 .left) (c .if2 .taken)
+    holds-full (a .size) (a .capacity) (a .count) (a .list .now) (t .pre .0) _ (sym (tested (c .before .before)) ∙ c .before .if1 .left) (c .if2 .taken)
 
 store-requires : tie.Need-store-requires
 store-requires c κs =
@@ -51,7 +62,7 @@ returns-3 c =
     let t = e .before .before .before .before in
     let a = t .args in
     rw (c .before .store .ensures)
-    (holds-new (a .size) (a .capacity) (a .count) (a .list .now) (t .pre .0) (a .zone .now) (t .pre .1) (sym (e .before .before .has .ensures) ∙ e .before .if1 .left) (e .if2 .left))
+    (holds-new (a .size) (a .capacity) (a .count) (a .list .now) (t .pre .0) (a .zone .now) (t .pre .1) (sym (tested (e .before .before)) ∙ e .before .if1 .left) (e .if2 .left))
 
 pub keep-spec : {M : Type 1} → statement M
 keep-spec =

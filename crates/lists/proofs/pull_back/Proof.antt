@@ -8,7 +8,7 @@ use lib.Seq.{length-take-le}
 use Rattle.zones.specs.Memory.{timesIn}
 use Rattle.lists.specs.Lists.{partIn}
 use Rattle.lists.proofs.Columns.{square, few-bounds}
-use Rattle.lists.proofs.Starting.{first-set, preimages}
+use Rattle.lists.proofs.Starting.{first-set, none-noted, preimages}
 use Rattle.lists.proofs.pull_back.Statement.{statement}
 use Rattle.lists.proofs.pull_back.Tie as tie
 
@@ -34,20 +34,26 @@ array-share-prefix-zone c = search needs
 slice-aggregate-select : tie.Need-slice-aggregate-select
 slice-aggregate-select c = sym (zone-long (c .before .before .before))
 
+slice-aggregate-select-2 : tie.Need-slice-aggregate-select-2
+slice-aggregate-select-2 c = search needs
+
 select-requires : tie.Need-select-requires
 select-requires c κs =
-    let e = c .before .before in
+    let e = c .before .before .before .before in
     let b = e .before in
-    (b .pre .0, first-set (b .pre .1) (zone-long b ∙ square (b .args .n)) (e .all-times .ensures .0) (e .all-times .ensures .1))
+    (b .pre .0, first-set (b .pre .1) (zone-long b ∙ square (b .args .n)) (e .all-times .ensures .0) (e .all-times .ensures .1), none-noted (b .pre .3))
 
 same-length : tie.Need-same-length
 same-length c = search needs
 
+same-length-2 : tie.Need-same-length-2
+same-length-2 c = search needs
+
 returns : tie.Need-returns
 returns c =
-    let e = c .before .before .before .before in
+    let e = c .before .before .before .before .before .before .before .before in
     let a = e .before .args in
-    rw (← (preimages (a .n) (timesIn (a .times .now)) (partIn (a .n) (a .t5))), ← (e .all-times .ensures .0)) (c .before .select .ensures)
+    rw (← (preimages (a .n) (timesIn (a .times .now)) (partIn (a .n) (a .t5))), ← (e .all-times .ensures .0)) (c .before .before .before .select .ensures .0)
 
 pub pull-back-spec : {M : Type 1} → statement M
 pull-back-spec =
@@ -59,6 +65,8 @@ pull-back-spec =
     all-times-requires
     array-share-prefix-zone
     slice-aggregate-select
+    slice-aggregate-select-2
     select-requires
     same-length
+    same-length-2
     returns)

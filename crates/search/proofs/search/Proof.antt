@@ -4,6 +4,8 @@ use native.Mathlib.Omega.{arith}
 use native.Mathlib.Numerals.{add-one}
 use Prim.Native.Nat.{_+_, _*_, _-_}
 use mathlib.Core.Path.{_≡_, refl, sym, ap, _∙_}
+use lib.IntN.{pos}
+use lib.ListN.{length, length-replicate}
 use Rattle.model.specs.Search.{lists}
 use Rattle.lists.proofs.Columns.{few-bounds}
 use Rattle.search.specs.Searching.{Searchable}
@@ -13,11 +15,11 @@ use Rattle.search.proofs.search.Statement.{statement}
 use Rattle.search.proofs.search.Tie as tie
 
 abbrev Inv-loop : tie.InvT-loop
-Inv-loop work₀ capacity times start target n cycles end half count₀ source₀ k₀ work count source k =
-    (q : Searchable n capacity cycles work₀ times start target) × Reached q work count source k × (half ≡ capacity * ((n + 1) * (n + 1)))
+Inv-loop work₀ capacity times start target n cycles end half count₀ seen₀ source₀ k₀ work count seen source k =
+    (q : Searchable n capacity cycles work₀ times start target) × Reached q work count source k × (half ≡ capacity * ((n + 1) * (n + 1))) × (length seen ≡ 65536)
 
 abbrev μ-loop : tie.MeasureT-loop
-μ-loop work₀ capacity times start target n cycles end half count₀ source₀ k₀ work count source k = cycles - k
+μ-loop work₀ capacity times start target n cycles end half count₀ seen₀ source₀ k₀ work count seen source k = cycles - k
 
 add-half : tie.Need-add-half Inv-loop μ-loop
 add-half c = search needs
@@ -38,7 +40,7 @@ loop-holds : tie.Need-loop-holds Inv-loop μ-loop
 unfolding lists
 loop-holds c =
     let q = same-room (c .before .before .before .pre) (c .before .first-list .kept .0) in
-    (q, begun q (c .before .first-list .ensures .0) (c .before .first-list .ensures .1), refl)
+    (q, begun q (c .before .first-list .ensures .0) (c .before .first-list .ensures .1), refl, length-replicate 65536 (pos 0))
 
 sub-goal : tie.Need-sub-goal Inv-loop μ-loop
 sub-goal c = let i = c .before .loop .inv in source-in (i .0) (i .1)
@@ -46,30 +48,33 @@ sub-goal c = let i = c .before .loop .inv in source-in (i .0) (i .1)
 add-k : tie.Need-add-k Inv-loop μ-loop
 add-k c = let q = c .before .loop .inv .0 in omega (arith, q .few-cycles, c .loop-test .taken)
 
+slice-aggregate-one-cycle : tie.Need-slice-aggregate-one-cycle Inv-loop μ-loop
+slice-aggregate-one-cycle c = sym (c .before .before .before .loop .inv .3)
+
 one-cycle-requires : tie.Need-one-cycle-requires Inv-loop μ-loop
-one-cycle-requires c κs = let i = c .before .before .loop .inv in stepping (i .0) (i .1) (c .before .loop-test .taken)
+one-cycle-requires c κs = let i = c .before .before .before .loop .inv in (stepping (i .0) (i .1) (c .before .before .loop-test .taken), i .3)
 
 same-length : tie.Need-same-length Inv-loop μ-loop
 same-length c =
-    let o = c .before .before .before in
-    let l = o .before .before .before in
+    let o = c .before .before .before .before in
+    let l = o .before .before .before .before in
     o .one-cycle .kept .0 ∙ l .loop .inv .1 .long ∙ l .before .before .first-list .kept .0
 
 returns : tie.Need-returns Inv-loop μ-loop
 returns c =
-    let o = c .before .before .before in
-    let l = o .before .before .before in
-    ended (l .loop .inv .0) (l .loop .inv .1) (o .before .before .loop-test .taken) (rw (add-one (l .loop .k)) at (o .one-cycle .ensures)) _ (c .before .if1 .taken)
+    let o = c .before .before .before .before in
+    let l = o .before .before .before .before in
+    ended (l .loop .inv .0) (l .loop .inv .1) (o .before .before .before .loop-test .taken) (rw (add-one (l .loop .k)) at (o .one-cycle .ensures)) _ (c .before .if1 .taken)
 
 loop-less : tie.Need-loop-less Inv-loop μ-loop
-loop-less c = let i = c .before .before .before .before .loop-test .taken in omega arith
+loop-less c = let i = c .before .before .before .before .before .before .loop-test .taken in omega arith
 
 loop-again : tie.Need-loop-again Inv-loop μ-loop
 loop-again c =
-    let o = c .before .before in
-    let l = o .before .before .before in
-    let r = onward (l .loop .inv .0) (l .loop .inv .1) (o .before .before .loop-test .taken) (rw (add-one (l .loop .k)) at (o .one-cycle .ensures)) (c .if1 .left) (o .one-cycle .kept .0) in
-    (l .loop .inv .0, rw (add-one (l .loop .k)) r, refl)
+    let o = c .before .before .before in
+    let l = o .before .before .before .before in
+    let r = onward (l .loop .inv .0) (l .loop .inv .1) (o .before .before .before .loop-test .taken) (rw (add-one (l .loop .k)) at (o .one-cycle .ensures)) (c .if1 .left) (o .one-cycle .kept .0) in
+    (l .loop .inv .0, rw (add-one (l .loop .k)) r, refl, o .one-cycle .kept .1 .1 .1 .1 .1 .1 .1 .0 ∙ l .loop .inv .3)
 
 plain-requires : tie.Need-plain-requires Inv-loop μ-loop
 plain-requires c κs = search needs
@@ -96,6 +101,7 @@ search-spec =
     loop-holds
     sub-goal
     add-k
+    slice-aggregate-one-cycle
     one-cycle-requires
     same-length
     returns

@@ -1,17 +1,18 @@
--- Place by place: row b is as it was where it is read, also where it is row i itself.
+-- A blank way leaves the row. Otherwise place by place: row b is as it was where it is read, also where it is row i itself.
 use borrow.Author.Needs.{needs}
 use Prim.Native.Nat.{suc, _-_, _≤_}
 use native.Mathlib.Omega.{arith}
 use native.Mathlib.Decide.{ℕ-discrete}
-use mathlib.Core.Path.{_≡_, ap, ap₂, _∙_}
+use mathlib.Core.Path.{_≡_, sym, ap, ap₂, _∙_}
 use lib.ListN.{length}
-use Rattle.model.specs.Bound.{Bound, plus, tighter}
+use Rattle.model.specs.Bound.{Bound, any, plus, tighter}
 use Rattle.model.specs.Matrix.{entry}
+use Rattle.model.proofs.Bounds.{tighter-of-le}
 use Rattle.model.proofs.Size.{Small, small-mono, small-sum}
 use Rattle.zones.specs.Memory.{boundsIn}
 use Rattle.zones.specs.Inner.{bound, across, RowFilled, InMemory, Widest}
 use Rattle.zones.proofs.Places.{bounds-size}
-use Rattle.zones.proofs.Fills.{row-start, row-step}
+use Rattle.zones.proofs.Fills.{row-start, row-step, row-kept}
 use Rattle.zones.proofs.relax_row.Statement.{statement}
 use Rattle.zones.proofs.relax_row.Tie as tie
 
@@ -21,6 +22,16 @@ Inv-loop zone₀ n i b way j₀ zone j =
 
 abbrev μ-loop : tie.MeasureT-loop
 μ-loop zone₀ n i b way j₀ zone j = suc n - j
+
+enum-told : tie.Need-enum-told Inv-loop μ-loop
+enum-told c = search needs
+
+returns : tie.Need-returns Inv-loop μ-loop
+unfolding plus
+returns c = rw (c .enum-told .given .1) (row-kept _ _ _ _ (λ l. sym (tighter-of-le any)))
+
+enum-told-2 : tie.Need-enum-told-2 Inv-loop μ-loop
+enum-told-2 c = search needs
 
 loop-holds : tie.Need-loop-holds Inv-loop μ-loop
 loop-holds c = (row-start _ _ _ _, omega arith, omega arith)
@@ -33,7 +44,7 @@ bound-at-requires-2 c κs = omega arith
 
 plus-requires : tie.Need-plus-requires Inv-loop μ-loop
 plus-requires c κs =
-    let s = c .before .before .before .before .before .before in
+    let s = c .before .before .before .before .before .before .before .before in
     let sum : (b : Bound) → Small InMemory b → Small Widest (plus (bound (s .args .way)) b) = λ b h. small-mono (omega arith) (small-sum (s .pre .way-small) h) in
     search (needs, sum)
 
@@ -41,10 +52,10 @@ tighter-requires : tie.Need-tighter-requires Inv-loop μ-loop
 tighter-requires c κs = search needs
 
 -- row b at the place
-base : (l : tie.In-loop Inv-loop μ-loop) → let s = l .before .before in let j = l .before .loop .j in
+base : (l : tie.In-loop Inv-loop μ-loop) → let s = l .before .before .before .before in let j = l .before .loop .j in
     entry (suc (s .args .n)) (boundsIn (l .before .loop .zone)) (s .args .b) j ≡ entry (suc (s .args .n)) (boundsIn (s .args .zone .now)) (s .args .b) j
 base l =
-    let s = l .before .before in
+    let s = l .before .before .before .before in
     let inv = l .before .loop .inv .0 in
     elim (ℕ-discrete (s .args .b) (s .args .i)) [
       | yes e ↦ rw e (inv .left _ (omega arith) (omega arith))
@@ -52,7 +63,7 @@ base l =
     ]
 
 -- the new entry
-new : (c : tie.After-tighter Inv-loop μ-loop) → let l = c .before .before .before .before .before .before in let s = l .before .before in let j = l .before .loop .j in
+new : (c : tie.After-tighter Inv-loop μ-loop) → let l = c .before .before .before .before .before .before in let s = l .before .before .before .before in let j = l .before .loop .j in
     bound (c .tighter .result) ≡ across (s .args .n) (boundsIn (s .args .zone .now)) (s .args .i) (s .args .b) (bound (s .args .way)) j
 new c =
     let p = c .before in
@@ -61,11 +72,11 @@ new c =
     let l = x .before .before in
     c .tighter .ensures
     ∙ ap₂ tighter (x .bound-at .ensures .is ∙ l .before .loop .inv .0 .left _ (omega arith) (omega arith))
-    (p .plus .ensures ∙ ap (plus (bound (l .before .before .args .way))) (y .bound-at2 .ensures .is ∙ base l))
+    (p .plus .ensures ∙ ap (plus (bound (l .before .before .before .before .args .way))) (y .bound-at2 .ensures .is ∙ base l))
 
 put-requires : tie.Need-put-requires Inv-loop μ-loop
 put-requires c κs =
-    let s = c .before .before .before .before .before .before .before .before .before in
+    let s = c .before .before .before .before .before .before .before .before .before .before .before in
     (omega arith, rw (new (c .before)) (s .pre .new-small _ (omega arith)))
 
 add-j : tie.Need-add-j Inv-loop μ-loop
@@ -84,9 +95,9 @@ loop-again c =
 same-length : tie.Need-same-length Inv-loop μ-loop
 same-length c = c .before .loop .inv .2
 
-returns : tie.Need-returns Inv-loop μ-loop
-returns c =
-    let e : c .before .loop .j ≡ suc (c .before .before .args .n) = omega arith in
+returns-2 : tie.Need-returns-2 Inv-loop μ-loop
+returns-2 c =
+    let e : c .before .loop .j ≡ suc (c .before .before .before .before .args .n) = omega arith in
     rw e at (c .before .loop .inv .0)
 
 pub relax-row-spec : {M : Type 1} → statement M
@@ -95,6 +106,9 @@ relax-row-spec =
     (tie.spec
     Inv-loop
     μ-loop
+    enum-told
+    returns
+    enum-told-2
     loop-holds
     bound-at-requires
     bound-at-requires-2
@@ -105,4 +119,4 @@ relax-row-spec =
     loop-less
     loop-again
     same-length
-    returns)
+    returns-2)

@@ -1,0 +1,232 @@
+//! Families of cases. Seeds are fixed, so each run has the same cases.
+
+use crate::rows;
+use crate::CAPACITY;
+use evidence::archive::Verdict;
+use evidence::case::{pair, Case, Pattern, Times};
+use evidence::enumeration::image;
+use evidence::random::Random;
+
+/// Cases of one kind.
+pub struct Family {
+    pub name: String,
+    pub cases: Vec<Case>,
+    /// Selections that may be tried one by one on each case.
+    pub limit: u64,
+}
+
+/// Cases in a random family.
+const CASES: usize = 20;
+
+/// Selections tried one by one on a random case: about half a second.
+const LIMIT: u64 = 3_000_000;
+
+/// Bounds low <= x(i) - x(j) <= high.
+fn window(pattern: &mut Pattern, n: usize, (i, j): (usize, usize), low: i64, high: i64) {
+    pattern[pair(n, i, j)] = Some(high);
+    pattern[pair(n, j, i)] = Some(-low);
+}
+
+/// Bounds each difference to `slack` seconds around that of given times. With
+/// the clock, these are bounds on the times too.
+fn around(n: usize, x: &Times, slack: i64, clock: bool) -> Pattern {
+    let at = |i: usize| if i == 0 { 0 } else { x[i - 1] };
+    let mut pattern = [None; 56];
+    for j in usize::from(!clock)..n {
+        for i in j + 1..=n {
+            let apart = at(i) - at(j);
+            window(&mut pattern, n, (i, j), apart - slack, apart + slack);
+        }
+    }
+    pattern
+}
+
+/// A table with `count` times in each row.
+fn table(random: &mut Random, n: usize, count: usize, (low, high): (i64, i64)) -> Case {
+    let mut case = Case::empty(n, 64);
+    for row in 0..n {
+        let mut columns: Vec<usize> = (0..n).collect();
+        for place in 0..count {
+            columns.swap(place, place + random.below(n - place));
+            case.times[row * n + columns[place]] = Some(random.between(low, high));
+        }
+    }
+    case
+}
+
+/// Gives a table patterns around a start and what it becomes after 2 to 8
+/// cycles. One kind bounds differences, one the clock too; a third has a start
+/// apart from all that the target can come from, so that nothing is reached; in
+/// the fourth the target is not quite what the start becomes.
+fn with_patterns(random: &mut Random, mut case: Case, kind: usize) -> Case {
+    let n = case.n;
+    let mut x = [0; 7];
+    for time in x.iter_mut().take(n) {
+        *time = random.between(0, 1200);
+    }
+    let mut then = image(&case, &x, 2 + random.below(7));
+    let slack = random.one_of(&[0, 1, 10]);
+    let clock = kind == 1 || kind == 2;
+    if kind == 3 {
+        then[random.below(n)] += random.between(1, 60);
+    }
+    case.start = around(n, &x, slack, clock);
+    case.target = around(n, &then, slack, clock);
+    if kind == 2 {
+        case.start = [None; 56];
+        window(&mut case.start, n, (1, 0), 100_000, 100_000 + slack);
+    }
+    case
+}
+
+/// Whether the verdict says enough for a place in a family: not decided at
+/// cycle 1, and table full only sometimes.
+fn of_use(random: &mut Random, case: &Case) -> bool {
+    match rows::verdict(case, CAPACITY).0.verdict {
+        Verdict::Refused(fault) => fault.returned > 1 && random.chance(1, 6),
+        Verdict::Reached { cycle } => cycle > 1,
+        _ => true,
+    }
+}
+
+/// Random tables with `counts` times a row, of 60 to 1,200 seconds.
+fn random_family(name: &str, n: usize, counts: &[usize]) -> Family {
+    let mut random = Random::new(n as u64);
+    let mut cases = Vec::new();
+    while cases.len() < CASES {
+        let count = random.one_of(counts);
+        let case = table(&mut random, n, count, (60, 1200));
+        let case = with_patterns(&mut random, case, cases.len() % 4);
+        if of_use(&mut random, &case) {
+            cases.push(case);
+        }
+    }
+    Family {
+        name: format!("{name} {n}"),
+        cases,
+        limit: LIMIT,
+    }
+}
+
+/// Whether each departure depends on each in time: the table is irreducible.
+fn connected(case: &Case) -> bool {
+    let links = |i: usize| (0..case.n).filter(move |&j| case.time(i, j).is_some());
+    let all_from = |first: usize| {
+        let mut met = vec![first];
+        let mut next = 0;
+        while let Some(&i) = met.get(next) {
+            let fresh: Vec<usize> = links(i).filter(|j| !met.contains(j)).collect();
+            met.extend(fresh);
+            next += 1;
+        }
+        met.len() == case.n
+    };
+    (0..case.n).all(all_from)
+}
+
+/// Table 1 of document 000: irreducible tables with 3 times of 1 to 20 in each
+/// row, from x(1) >= ... >= x(5) to x(1) <= ... <= x(5).
+fn document_family(n: usize) -> Family {
+    let mut random = Random::new(100 + n as u64);
+    let mut cases = Vec::new();
+    while cases.len() < CASES {
+        let mut case = table(&mut random, n, 3, (1, 20));
+        for i in 1..5 {
+            case.start[pair(n, i + 1, i)] = Some(0);
+            case.target[pair(n, i, i + 1)] = Some(0);
+        }
+        if connected(&case) {
+            cases.push(case);
+        }
+    }
+    Family {
+        name: format!("document 000 ({n}, 3)"),
+        cases,
+        limit: LIMIT,
+    }
+}
+
+/// A ring of 7: each departure waits for itself and the one before it, with
+/// `count` = 3 also for the one after it.
+fn ring_family(count: usize) -> Family {
+    let n = 7;
+    let mut random = Random::new(200 + count as u64);
+    let mut cases = Vec::new();
+    while cases.len() < CASES {
+        let mut case = Case::empty(n, 64);
+        for row in 0..n {
+            for column in [row, (row + n - 1) % n, (row + 1) % n].iter().take(count) {
+                case.times[row * n + column] = Some(random.between(60, 1200));
+            }
+        }
+        let case = with_patterns(&mut random, case, cases.len() % 4);
+        if of_use(&mut random, &case) {
+            cases.push(case);
+        }
+    }
+    Family {
+        name: format!("ring of 7, {count} a row"),
+        cases,
+        limit: LIMIT,
+    }
+}
+
+/// The table of 7 departures without a blank, all times 0, from x(1) = 1 and
+/// x(2) = 0 to all times 0. Each list has 127 zones, and no selection of any
+/// of them is empty.
+pub fn zeros(horizon: usize) -> Case {
+    let mut case = Case::empty(7, horizon);
+    case.times = [Some(0); 49];
+    window(&mut case.start, 7, (1, 0), 1, 1);
+    window(&mut case.start, 7, (2, 0), 0, 0);
+    case.target = around(7, &[0; 7], 0, true);
+    case
+}
+
+/// The table of zeros. One by one, each zone has 823,543 selections; cycle 1
+/// has one zone, later cycles have 127, which is too many.
+fn zero_family(horizon: usize) -> Family {
+    Family {
+        name: format!("zeros of 7, N = {horizon}"),
+        cases: vec![zeros(horizon)],
+        limit: LIMIT,
+    }
+}
+
+/// Tables of 7 departures without a blank, over one cycle; in every other
+/// case a start gets into the target. For the comparison with a solver.
+pub fn one_cycle() -> Vec<Case> {
+    let mut random = Random::new(300);
+    let mut cases = Vec::new();
+    while cases.len() < 6 {
+        let mut case = table(&mut random, 7, 7, (60, 1200));
+        let x = std::array::from_fn(|_| random.between(0, 1200));
+        let then = image(&case, &x, 1 + cases.len() % 2);
+        case.horizon = 1;
+        case.start = around(7, &x, 10, true);
+        case.target = around(7, &then, 10, true);
+        let verdict = rows::verdict(&case, CAPACITY).0.verdict;
+        if !matches!(verdict, Verdict::Refused(_)) {
+            cases.push(case);
+        }
+    }
+    cases
+}
+
+/// All families, in the order of the table.
+pub fn all() -> Vec<Family> {
+    let mut families = Vec::new();
+    for n in 5..=7 {
+        families.push(random_family("dense", n, &[n]));
+    }
+    for n in 5..=7 {
+        families.push(random_family("sparse", n, &[2, 3]));
+    }
+    for n in 5..=7 {
+        families.push(document_family(n));
+    }
+    families.push(ring_family(2));
+    families.push(ring_family(3));
+    families.extend([1, 2, 64].map(zero_family));
+    families
+}

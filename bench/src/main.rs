@@ -1,0 +1,55 @@
+//! Runs the benchmark:
+//!
+//!     bench                      all families, dropping, and z3
+//!     bench WORD...              families whose names have one of the words
+//!     bench dropping             what dropping equal sets saves
+//!     bench z3                   the comparison with z3
+//!     bench slowest SEED STEPS   a search for a slow case
+//!     bench case HEX             one packed case
+
+use bench::families::{self, Family};
+use bench::{dropping, slowest, table, z3};
+use std::env;
+use std::process::ExitCode;
+
+/// The families whose names have one of the words.
+fn chosen(words: &[&str]) -> Vec<Family> {
+    let mut families = families::all();
+    let named = |name: &str| words.iter().any(|word| name.contains(word));
+    families.retain(|family| named(&family.name));
+    families
+}
+
+fn run(words: &[&str]) -> Result<(), String> {
+    let solver = || z3::print().map_err(|error| format!("the comparison with z3: {error}"));
+    match words {
+        ["slowest", seed, steps] => slowest::search(seed, steps),
+        ["case", hex] => slowest::one(hex),
+        ["z3"] => solver(),
+        ["dropping"] => {
+            dropping::print();
+            Ok(())
+        }
+        [] => {
+            table::print(&families::all());
+            dropping::print();
+            solver()
+        }
+        _ => {
+            table::print(&chosen(words));
+            Ok(())
+        }
+    }
+}
+
+fn main() -> ExitCode {
+    let arguments: Vec<String> = env::args().skip(1).collect();
+    let words: Vec<&str> = arguments.iter().map(String::as_str).collect();
+    match run(&words) {
+        Ok(()) => ExitCode::SUCCESS,
+        Err(words) => {
+            eprintln!("{words}");
+            ExitCode::FAILURE
+        }
+    }
+}

@@ -1,0 +1,146 @@
+//! The search that the plain versions share; they differ in how a list is
+//! made. M is n + 1.
+
+use crate::network::Table;
+use crate::zone::Zone;
+use evidence::archive::{Answer, Fault, Verdict};
+use evidence::case::{pair, Case, Pattern};
+use evidence::selections::only_differences;
+
+/// Calls a function that is generic in M for a number of departures.
+#[macro_export]
+macro_rules! for_size {
+    ($n:expr, $function:ident($($argument:expr),*)) => {
+        match $n {
+            1 => $function::<2>($($argument),*),
+            2 => $function::<3>($($argument),*),
+            3 => $function::<4>($($argument),*),
+            4 => $function::<5>($($argument),*),
+            5 => $function::<6>($($argument),*),
+            6 => $function::<7>($($argument),*),
+            7 => $function::<8>($($argument),*),
+            n => panic!("no case of {n} departures is within the limits"),
+        }
+    };
+}
+
+/// Why a list is not made to its end.
+#[derive(Clone, Copy, Debug, PartialEq, Eq)]
+pub enum Stop {
+    /// It is longer than the capacity.
+    Full,
+    /// Making it takes more steps than allowed.
+    Steps,
+}
+
+/// A list that is being made: its zones differ from each other.
+pub struct Kept<const M: usize> {
+    zones: Vec<Zone<M>>,
+    capacity: usize,
+    /// How many comparisons of two sets were made.
+    pub compared: u64,
+}
+
+impl<const M: usize> Kept<M> {
+    /// Keeps a set that differs from all kept.
+    pub fn keep(&mut self, set: &Zone<M>) -> Result<(), Stop> {
+        let found = self.zones.iter().position(|other| other == set);
+        self.compared += found.map_or(self.zones.len(), |place| place + 1) as u64;
+        if found.is_some() {
+            return Ok(());
+        }
+        if self.zones.len() == self.capacity {
+            return Err(Stop::Full);
+        }
+        self.zones.push(*set);
+        Ok(())
+    }
+}
+
+/// A way to make lists.
+pub trait Lister<const M: usize> {
+    /// Keeps the sets of times whose image is in the zone, one for each
+    /// selection, in order.
+    fn before(&mut self, table: &Table<M>, zone: &Zone<M>, kept: &mut Kept<M>) -> Result<(), Stop>;
+}
+
+/// The bounds that a pattern states.
+fn stated(n: usize, pattern: &Pattern) -> Vec<(usize, usize, i32)> {
+    let pairs = (0..=n).flat_map(|i| (0..=n).map(move |j| (i, j)));
+    let stated = pairs.filter(|(i, j)| i != j).filter_map(|(i, j)| {
+        let bound = pattern[pair(n, i, j)]?;
+        Some((i, j, bound as i32))
+    });
+    stated.collect()
+}
+
+/// The searched horizon, and the verdict where nothing is met up to it.
+fn searched<const M: usize>(case: &Case, table: &Table<M>) -> (usize, Verdict) {
+    let n = case.n;
+    let horizon = case.horizon;
+    if only_differences(n, &case.start) || only_differences(n, &case.target) {
+        if let Some(q) = table.first_repeat().filter(|q| q - 1 <= horizon) {
+            return (q - 1, Verdict::Never);
+        }
+    }
+    (horizon, Verdict::Clear { horizon })
+}
+
+/// An answer without a start.
+fn without_start(verdict: Verdict) -> Answer {
+    let start = [0; 7];
+    Answer { verdict, start }
+}
+
+fn refused(number: usize, returned: usize) -> Answer {
+    without_start(Verdict::Refused(Fault { number, returned }))
+}
+
+/// What list k decides, if anything.
+fn decided<const M: usize>(
+    list: &[Zone<M>],
+    start: &[(usize, usize, i32)],
+    k: usize,
+) -> Option<Answer> {
+    if list.iter().any(Zone::too_large) {
+        return Some(refused(12, k));
+    }
+    let common = list.iter().find_map(|zone| zone.common(start))?;
+    let verdict = Verdict::Reached { cycle: k };
+    let start = common.pick().expect("a set that is not empty");
+    Some(Answer { verdict, start })
+}
+
+/// The whole search on a case within the limits, and how many comparisons of
+/// two sets it made, or none if it takes more steps than allowed.
+pub fn search<const M: usize>(
+    case: &Case,
+    capacity: usize,
+    lister: &mut impl Lister<M>,
+) -> Option<(Answer, u64)> {
+    let table = Table::new(case);
+    let start = stated(case.n, &case.start);
+    let (last, otherwise) = searched(case, &table);
+    let target = Zone::everything().common(&stated(case.n, &case.target));
+    let mut list: Vec<Zone<M>> = target.into_iter().collect();
+    let mut kept = Kept {
+        zones: Vec::with_capacity(capacity),
+        capacity,
+        compared: 0,
+    };
+    for k in 1..=last {
+        let made = list
+            .iter()
+            .try_for_each(|zone| lister.before(&table, zone, &mut kept));
+        match made {
+            Err(Stop::Full) => return Some((refused(11, k), kept.compared)),
+            Err(Stop::Steps) => return None,
+            Ok(()) => std::mem::swap(&mut list, &mut kept.zones),
+        }
+        kept.zones.clear();
+        if let Some(answer) = decided(&list, &start, k) {
+            return Some((answer, kept.compared));
+        }
+    }
+    Some((without_start(otherwise), kept.compared))
+}

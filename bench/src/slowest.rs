@@ -1,0 +1,201 @@
+//! A search for cases of 7 departures on which a verdict takes long: changes
+//! by chance, kept unless they make the search cheaper. What counts is what
+//! plain Rust counts, so a search finds the same on every machine.
+
+use crate::measure::measure;
+use crate::rows::{self, Cost};
+use crate::table::words;
+use crate::{hex, CAPACITY};
+use evidence::case::{pair, Case, Pattern};
+use evidence::faults;
+use evidence::random::Random;
+
+const N: usize = 7;
+
+/// Cycles searched while looking; what is found is then searched for 64.
+const CYCLES: usize = 12;
+
+/// Comparisons of sets that take about as long as a change of one.
+const WEIGHT: u64 = 12;
+
+fn weight(cost: Cost) -> u64 {
+    WEIGHT * cost.changes + cost.compared
+}
+
+/// Both ways, so that the difference is a number.
+fn fix(pattern: &mut Pattern, i: usize, j: usize, bound: i64) {
+    pattern[pair(N, i, j)] = Some(bound);
+    pattern[pair(N, j, i)] = Some(-bound);
+}
+
+/// A case whose start nobody can meet but names the clock, so that the search
+/// goes on to the horizon.
+fn without_start() -> Case {
+    let mut case = Case::empty(N, CYCLES);
+    case.start[pair(N, 1, 0)] = Some(0);
+    case.start[pair(N, 0, 1)] = Some(-1);
+    case
+}
+
+/// A table of times from 0 to `size`, and a target of one point.
+fn even(random: &mut Random, size: i64) -> Case {
+    let mut case = without_start();
+    for time in case.times.iter_mut() {
+        *time = Some(random.between(0, size));
+    }
+    for i in 1..=N {
+        fix(&mut case.target, i, 0, random.between(0, size));
+    }
+    case
+}
+
+/// A table in which departure 7, or 6, is so far ahead that it attains every
+/// row's largest sum. Nothing but the last row says so: the rows before it meet
+/// more sets than are remembered, and few of them stay. Where 6 is as far ahead
+/// as 7, the rows tell one interval of their difference from the next; the
+/// difference falls from cycle to cycle, so that the list grows.
+fn led(random: &mut Random) -> Case {
+    let rows = [
+        [-10_000, -10_000, -10_000, -10_000, -5_000, -900, 0],
+        [-5_000, -5_000, -5_000, -5_000, 0, -2_000, -1_000],
+        [-10_000, -10_000, -10_000, -10_000, -5_000, -450, 0],
+    ];
+    let mut case = without_start();
+    for (i, row) in [0, 0, 0, 0, 1, 2].into_iter().enumerate() {
+        for (j, &time) in rows[row].iter().enumerate() {
+            let more = if j < 4 { random.between(0, 1) } else { 0 };
+            case.times[i * N + j] = Some(time + more);
+        }
+    }
+    case.times[5 * N + 6] = None;
+    case.times[6 * N + 6] = Some(0);
+    for (i, ahead) in [4_000, 4_000, 4_000, 4_000, -1_000, 1_000]
+        .into_iter()
+        .enumerate()
+    {
+        case.target[pair(N, i + 1, 7)] = Some(ahead);
+    }
+    case.target[pair(N, 7, 0)] = Some(1_000_000);
+    case
+}
+
+/// Changes one time to about that of another row, or copies or swaps rows.
+fn change_table(random: &mut Random, case: &mut Case) {
+    let (one, other, column) = (random.below(N), random.below(N), random.below(N));
+    let place = one * N + column;
+    match random.below(8) {
+        0 => case.times.copy_within(other * N..other * N + N, one * N),
+        1 => (0..N).for_each(|j| case.times.swap(one * N + j, other * N + j)),
+        2 if (0..N).any(|j| j != column && case.time(one, j).is_some()) => case.times[place] = None,
+        _ => {
+            let about = case.time(other, column).unwrap_or(0);
+            let step = random.one_of(&[1, 1, 100]);
+            let time = about + step * random.between(-2, 2);
+            case.times[place] = Some(time.clamp(-86_400, 86_400));
+        }
+    }
+}
+
+/// Changes the target: one bound, or both of a pair.
+fn change_target(random: &mut Random, case: &mut Case) {
+    let (i, j) = (random.below(N + 1), random.below(N));
+    let j = if j < i { j } else { j + 1 };
+    let place = pair(N, i, j);
+    let bound = case.target[place].unwrap_or(0) + random.between(-2, 2);
+    match random.below(4) {
+        0 => case.target[place] = None,
+        1 => fix(&mut case.target, i, j, bound.clamp(-1_000_000, 1_000_000)),
+        _ => case.target[place] = Some(bound.clamp(-1_000_000, 1_000_000)),
+    }
+}
+
+fn changed(random: &mut Random, case: &Case) -> Case {
+    let mut next = *case;
+    for _ in 0..=random.below(3) {
+        if random.chance(3, 4) {
+            change_table(random, &mut next);
+        } else {
+            change_target(random, &mut next);
+        }
+    }
+    next
+}
+
+/// The slowest case met from one beginning, and its weight.
+fn climb(random: &mut Random, beginning: Case, steps: usize) -> (u64, Case) {
+    let weigh = |case: &Case| weight(rows::verdict(case, CAPACITY).1);
+    let mut case = beginning;
+    let mut most = weigh(&case);
+    for _ in 0..steps {
+        let next = changed(random, &case);
+        let weight = weigh(&next);
+        if weight >= most {
+            (most, case) = (weight, next);
+        }
+    }
+    (most, case)
+}
+
+/// Prints a case, what it costs and how long it takes.
+fn print(case: &Case) {
+    println!("{}", hex(case));
+    let (_, cost) = rows::verdict(case, CAPACITY);
+    println!("{cost:?}");
+    let measured = measure(case, 0);
+    let (library, rows) = (words(measured.library), words(measured.rows));
+    println!(
+        "{:?}: library {library}, plain Rust {rows}",
+        measured.verdict
+    );
+}
+
+fn number<T: std::str::FromStr>(text: &str) -> Result<T, String> {
+    text.parse().map_err(|_| format!("{text} is not a number"))
+}
+
+/// The slower of a case over 64 cycles and what was found before.
+fn slower(found: Option<(u64, Case)>, mut case: Case) -> Option<(u64, Case)> {
+    case.horizon = 64;
+    let weight = weight(rows::verdict(&case, CAPACITY).1);
+    match found {
+        Some((most, _)) if most > weight => found,
+        _ => Some((weight, case)),
+    }
+}
+
+/// Looks for a slow case from four beginnings and prints it.
+pub fn search(seed: &str, steps: &str) -> Result<(), String> {
+    let mut random = Random::new(number(seed)?);
+    let steps: usize = number(steps)?;
+    let mut found = None;
+    for kind in 0..4 {
+        let beginning = match kind {
+            0 => even(&mut random, 0),
+            1 => even(&mut random, 2),
+            _ => led(&mut random),
+        };
+        found = slower(found, beginning);
+        let (_, case) = climb(&mut random, beginning, steps / 4);
+        found = slower(found, case);
+    }
+    if let Some((_, case)) = found {
+        print(&case);
+    }
+    Ok(())
+}
+
+/// The case of hexadecimal digits.
+fn read(digits: &str) -> Result<Case, String> {
+    let pairs = digits.as_bytes().chunks(2);
+    let bytes: Option<Vec<u8>> = pairs
+        .map(|pair| u8::from_str_radix(std::str::from_utf8(pair).ok()?, 16).ok())
+        .collect();
+    let bytes = bytes.ok_or("not hexadecimal digits")?;
+    faults::of_packed(&bytes).map_err(|fault| format!("refused: {fault:?}"))
+}
+
+/// Prints one packed case, given in hexadecimal digits.
+pub fn one(digits: &str) -> Result<(), String> {
+    print(&read(digits)?);
+    Ok(())
+}

@@ -1,0 +1,93 @@
+//! Zones as closed difference-bound matrices. M is n + 1; index 0 is the
+//! clock's zero.
+
+/// Stands for a bound that is not there. Finite bounds stay below 500,000,000
+/// in size for every case, so sums of three of them fit.
+pub const NONE: i32 = i32::MAX;
+
+/// Where the times of a set do not exist.
+#[derive(Clone, Copy, Debug, PartialEq, Eq)]
+pub struct Empty;
+
+/// A set of times, not empty: the greatest x(i) - x(j) for each pair.
+#[derive(Clone, Copy, Debug)]
+pub struct Zone<const M: usize>([[i32; M]; M]);
+
+impl<const M: usize> PartialEq for Zone<M> {
+    /// One comparison of memory, not one for each row.
+    fn eq(&self, other: &Zone<M>) -> bool {
+        self.0.as_flattened() == other.0.as_flattened()
+    }
+}
+
+impl<const M: usize> Zone<M> {
+    /// All times.
+    pub fn everything() -> Zone<M> {
+        let mut most = [[NONE; M]; M];
+        for (i, row) in most.iter_mut().enumerate() {
+            row[i] = 0;
+        }
+        Zone(most)
+    }
+
+    /// The greatest x(i) - x(j), if there is one.
+    pub fn bound(&self, i: usize, j: usize) -> Option<i32> {
+        let bound = self.0[i][j];
+        (bound != NONE).then_some(bound)
+    }
+
+    /// One more constraint, x(a) - x(b) <= c, in place. Says whether any bound
+    /// changed. Row b and column a do not change, since the set is not empty.
+    pub fn constrain(&mut self, a: usize, b: usize, c: i32) -> Result<bool, Empty> {
+        if self.0[a][b] <= c {
+            return Ok(false);
+        }
+        if self.bound(b, a).is_some_and(|back| back + c < 0) {
+            return Err(Empty);
+        }
+        let rest = self.0[b];
+        for row in self.0.iter_mut().filter(|row| row[a] != NONE) {
+            let way = row[a] + c;
+            for (most, &rest) in row.iter_mut().zip(&rest) {
+                if rest != NONE {
+                    *most = (*most).min(way + rest);
+                }
+            }
+        }
+        Ok(true)
+    }
+
+    /// What the set has in common with the bounds of a pattern.
+    pub fn common(&self, pattern: &[(usize, usize, i32)]) -> Option<Zone<M>> {
+        let mut set = *self;
+        for &(i, j, bound) in pattern {
+            set.constrain(i, j, bound).ok()?;
+        }
+        Some(set)
+    }
+
+    /// Whether a finite bound is beyond 2,000,000,000 in size.
+    pub fn too_large(&self) -> bool {
+        let bounds = self.0.as_flattened().iter();
+        bounds.fold(false, |any, &b| {
+            any | (b != NONE && b.unsigned_abs() > 2_000_000_000)
+        })
+    }
+
+    /// The start picked: for each departure in turn the least time; if there
+    /// is no least, the greatest; if neither, 0.
+    pub fn pick(mut self) -> Result<[i64; 7], Empty> {
+        let mut times = [0; 7];
+        for i in 1..M {
+            let time = match (self.bound(0, i), self.bound(i, 0)) {
+                (Some(below), _) => -below,
+                (None, Some(greatest)) => greatest,
+                (None, None) => 0,
+            };
+            self.constrain(i, 0, time)?;
+            self.constrain(0, i, -time)?;
+            times[i - 1] = i64::from(time);
+        }
+        Ok(times)
+    }
+}

@@ -1,0 +1,102 @@
+-- A set met before adds nothing: all that further rows make of it is in the list already.
+use Prim.Native.Nat.{ℕ, suc, _+_, _*_, _-_, _≤_}
+use mathlib.Core.Path.{_≡_, refl, ap, _∙_}
+use mathlib.Core.Logic.{⊎-elim}
+use mathlib.Core.Bool.{true}
+use mathlib.Core.List.{List, [], _∷_, map, foldl}
+use mathlib.Core.Option.{Option, none, some}
+use lib.IntN.{ℤ}
+use lib.ListN.{getD}
+use Rattle.model.specs.Lists.{anyOf}
+use Rattle.model.specs.Matrix.{Matrix, sameMatrix}
+use Rattle.model.specs.Network.{Time}
+use Rattle.model.specs.Search.{keep}
+use Rattle.model.proofs.Listed.{Every, done, both, every-map, every-tabulate, Some, here, there, some-at, every-some}
+use Rattle.model.proofs.Zones.{Is}
+use Rattle.model.proofs.Same.{sameMatrix-true}
+use Rattle.model.proofs.Kept.{Keeps, empty, there-already, new, keep-is, kept-old, of-kept, anyOf-true}
+use Rattle.model.proofs.Selections.{selections-sound}
+use Rattle.model.proofs.Images.{Before, same-left}
+use Rattle.zones.specs.Memory.{boundsIn, timesIn}
+use Rattle.lists.specs.Lists.{zoneAt, extensions, withColumn, partIn, Selecting, metIn, unmet, Noting, Old, Covered, Noted}
+use Rattle.lists.proofs.Columns.{in-cols, next-before}
+use Rattle.lists.proofs.Selecting.{here-none, here-some}
+use Rattle.lists.proofs.Selecting as column
+use Rattle.lists.proofs.Seen.{unmet-none}
+
+-- ---- what is in a list and put to it again
+not-both : {X : Type 0} {P : X → Type 0} {xs : List X} → Every (λ x. P x → ⊥) xs → Some P xs → ⊥
+not-both (both h hs) (here p) = h p
+not-both (both h hs) (there q) = not-both hs q
+
+keeps-old : {kept kept′ : List Matrix} {o : Option Matrix} → Keeps kept o kept′ → Old kept o → kept′ ≡ kept
+keeps-old empty h = refl
+keeps-old (there-already q) h = refl
+keeps-old (new {z} q) h = absurd (not-both q (h z refl))
+
+put-again : {kept : List Matrix} {os : List (Option Matrix)} → Every (Old kept) os → foldl keep kept os ≡ kept
+put-again done = refl
+put-again {kept} (both {x = o} {xs = os} h hs) = ap (λ (zs : List Matrix). foldl keep zs os) (keeps-old (keep-is kept o) h) ∙ put-again hs
+
+is-at : {o : Option Matrix} {z : Matrix} → o ≡ some z → Is (λ y. y ≡ z) o
+is-at e = rw e refl
+
+put-old : (kept : List Matrix) (os : List (Option Matrix)) → Every (Old (foldl keep kept os)) os
+put-old kept [] = done
+put-old kept (o ∷ os) = both (λ z e. of-kept kept {os = o ∷ os} (here (is-at e))) (put-old (keep kept o) os)
+
+-- ---- what further rows make of a set
+map-every-same : {X Y : Type 0} (f g : X → Y) {xs : List X} → Every (λ x. f x ≡ g x) xs → map f xs ≡ map g xs
+map-every-same f g done = refl
+map-every-same f g (both h hs) = rw (h, map-every-same f g hs)
+
+module _ (n : ℕ) (a : List Time) (d : Matrix) {p : Matrix} {i : ℕ} where
+  -- the columns in the rows before do not matter
+  same-extensions : {cols cols′ : List ℕ} → Before n a p cols i → Before n a p cols′ i → (r : ℕ) → extensions n a d (some p) cols i r ≡ extensions n a d (some p) cols′ i r
+  unfolding extensions
+  same-extensions b b′ r = map-every-same _ _ (every-map (λ rest q. same-left n a d b b′ q) (selections-sound n a r i))
+
+  -- where all of it was put to the list, it is covered
+  pub covered-new : (kept : List Matrix) {kept′ : List Matrix} {cols : List ℕ} → Before n a p cols i → kept′ ≡ foldl keep kept (extensions n a d (some p) cols i (suc n - i)) → Covered n a d kept′ i p
+  covered-new kept {cols} b e = record { cols = cols; before = b; listed = rw e (put-old kept (extensions n a d (some p) cols i (suc n - i))) }
+
+  -- and put to it again it adds nothing
+  covered-again : {kept : List Matrix} {cols : List ℕ} → Covered n a d kept i p → Before n a p cols i → foldl keep kept (extensions n a d (some p) cols i (suc n - i)) ≡ kept
+  covered-again c b = rw (same-extensions b (c .before) (suc n - i)) (put-again (c .listed))
+
+module _ {n : ℕ} {times zone : List ℤ} {kept : List Matrix} {seen : List ℤ} {counts : List ℕ} (w : Noted n times zone kept seen counts) where
+  -- the list grows
+  pub noted-on : (os : List (Option Matrix)) → Noted n times zone (foldl keep kept os) seen counts
+  noted-on os = record {
+    tables = w .tables;
+    covered = λ i c h.
+        let v = w .covered i c h in
+        record { cols = v .cols; before = v .before; listed = every-map (λ o old z e. kept-old kept os (old z e)) (v .listed) };
+  }
+
+  -- one set more is noted
+  pub noted-more : {i : ℕ} {p : Matrix} {seen′ : List ℤ} {counts′ : List ℕ} → Noting ((n + 1) * (n + 1)) i p seen seen′ counts counts′
+      → Covered n (timesIn times) (boundsIn zone) kept (i + 1) p → Noted n times zone kept seen′ counts′
+  noted-more m v = record {
+    tables = m .tables;
+    covered = λ j c h. ⊎-elim (λ k. rw (k .1) (w .covered j c (k .0))) (λ k. rw (k .1, k .0) v) (m .each j c h);
+  }
+
+  -- a set met is covered
+  noted-met : (i : ℕ) (p : Matrix) → anyOf (sameMatrix p) (metIn ((n + 1) * (n + 1)) seen counts i) ≡ true → Covered n (timesIn times) (boundsIn zone) kept (i + 1) p
+  noted-met i p e =
+      let all = every-tabulate {P = Covered n (timesIn times) (boundsIn zone) kept (i + 1)} (getD counts i 0) (i * 128) (zoneAt ((n + 1) * (n + 1)) seen) (w .covered i) in
+      let (y, h, q) = some-at (every-some all (anyOf-true (sameMatrix p) _ e)) in
+      rw (sameMatrix-true p y (h .1)) (h .0)
+
+  -- a column that leaves nothing, or a set met before
+  pub nothing-new : {part : List ℤ} {cols : List ℕ} {i : ℕ} (s : ℕ) → Selecting n times zone part cols i → i ≤ n → 1 ≤ s → s ≤ n
+      → unmet (metIn ((n + 1) * (n + 1)) seen counts i) (withColumn n (timesIn times) (boundsIn zone) (partIn n part) cols i s) ≡ none
+      → foldl keep kept (column.here n (timesIn times) (boundsIn zone) (partIn n part) cols i s) ≡ kept
+  nothing-new {part} {cols} {i} s sel row l u e =
+      ⊎-elim
+      (λ z. here-none n (timesIn times) (boundsIn zone) (partIn n part) cols i s z kept)
+      (λ z.
+      ap (foldl keep kept) (here-some n (timesIn times) (boundsIn zone) (partIn n part) cols i s (z .1) row (in-cols sel row))
+      ∙ covered-again n (timesIn times) (boundsIn zone) (noted-met i (z .0) (z .2)) (next-before s sel row l u (z .1)))
+      (unmet-none _ _ e)
