@@ -41,10 +41,11 @@ struct Task<'a, const M: usize> {
 }
 
 impl<const M: usize> Rows<M> {
-    /// Whether the set was met before at this row; if not, it now is.
+    /// Whether the set was met before at this row; if not, it now is. The last
+    /// ones are looked at first, as in the library.
     fn met_before(&mut self, row: usize, set: &Zone<M>) -> bool {
         let met = &mut self.met[row];
-        let found = met.iter().position(|other| other == set);
+        let found = met.iter().rev().position(|other| other == set);
         self.cost.compared += found.map_or(met.len(), |place| place + 1) as u64;
         if found.is_some() {
             return true;

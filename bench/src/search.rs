@@ -44,7 +44,7 @@ pub struct Kept<const M: usize> {
 impl<const M: usize> Kept<M> {
     /// Keeps a set that differs from all kept.
     pub fn keep(&mut self, set: &Zone<M>) -> Result<(), Stop> {
-        let found = self.zones.iter().position(|other| other == set);
+        let found = self.zones.iter().rev().position(|other| other == set);
         self.compared += found.map_or(self.zones.len(), |place| place + 1) as u64;
         if found.is_some() {
             return Ok(());

@@ -30,7 +30,7 @@ use Rattle.model.proofs.Tabulated.{tabulate-ext}
 use Rattle.model.proofs.Listed.{Every, every-map}
 use Rattle.zones.specs.Memory.{boundsIn, timeIn, timesIn}
 use Rattle.zones.specs.Conditions.{RowReady}
-use Rattle.lists.specs.Lists.{withColumn, partIn, Selecting}
+use Rattle.lists.specs.Lists.{withColumn, partIn, Selecting, NextColumn}
 
 pub square : (n : ℕ) → (n + 1) * (n + 1) ≡ suc n * suc n
 square n = rw add-one
@@ -59,6 +59,17 @@ module _ (n : ℕ) (times : List ℤ) (i s : ℕ) (inside : (i - 1) * n + (s - 1
   pub time-secs : sameZ raw (pos 2147483647) ≡ false → time n (timesIn times) i s ≡ secs raw
   unfolding time timeIn
   time-secs e = getD-times times ((i - 1) * n + (s - 1)) inside ∙ rw (e, timeIn)
+
+-- ---- blank columns passed over
+pub next-start : {n : ℕ} {a : List Time} {i s : ℕ} → s ≤ suc n → NextColumn n a i s s
+next-start h = record { from = omega arith; to = h; blank = λ t l u. absurd (omega arith) }
+
+pub next-past : {n : ℕ} {a : List Time} {i s t : ℕ} → NextColumn n a i s t → t ≤ n → time n a i t ≡ blank → NextColumn n a i s (t + 1)
+next-past {n} {a} {i} {s} {t} c h e = record { from = omega (arith, c .from); to = omega arith; blank = λ u l k. go u l k (ℕ-discrete u t) }
+  where
+    go : (u : ℕ) → s ≤ u → u < t + 1 → Dec (u ≡ t) → time n a i u ≡ blank
+    go u l k (yes p) = rw p e
+    go u l k (no p) = c .blank u l (omega arith)
 
 -- ---- what the column leaves of a set
 module _ (n : ℕ) (a : List Time) (d part : Matrix) (cols : List ℕ) (i s : ℕ) where

@@ -1,5 +1,5 @@
 -- The loop of `select`, in pure terms: the list so far, and the sets that are still to be put to it.
-use Prim.Native.Nat.{ℕ, suc, _+_, _*_, _-_, _≤_, _<_}
+use Prim.Native.Nat.{ℕ, zero, suc, _+_, _*_, _-_, _≤_, _<_}
 use native.Mathlib.Omega.{arith}
 use mathlib.Core.Path.{_≡_, refl, sym, ap, _∙_}
 use mathlib.Core.Bool.{true, false}
@@ -11,10 +11,11 @@ use Rattle.model.specs.Matrix.{Matrix}
 use Rattle.model.specs.Search.{keep}
 use Rattle.zones.specs.Memory.{boundsIn, timesIn}
 use Rattle.lists.specs.declared.Built.{Built}
-use Rattle.lists.specs.Lists.{listIn, Holds, Room, extensions, withColumn, partIn}
+use Rattle.lists.specs.Lists.{listIn, Holds, Room, extensions, withColumn, partIn, NextColumn}
 use Rattle.lists.proofs.Keeping.{length-listIn, in-place}
+use Rattle.lists.proofs.Columns.{without}
 use Rattle.lists.proofs.Extensions.{kept-grows, extensions-end}
-use Rattle.lists.proofs.Selecting.{held-full, held-open, held-list, from, from-first, from-next, from-end, here, here-some}
+use Rattle.lists.proofs.Selecting.{held-full, held-open, held-list, from, from-first, from-next, from-end, here, here-none, here-some}
 
 -- what a set becomes with a column, by the answer
 abbrev pub size : ℕ → ℕ
@@ -68,6 +69,17 @@ module _ (n capacity count : ℕ) (list₀ times zone part : List ℤ) (cols : L
         rest = g .rest ∙ from-next n (timesIn times) (boundsIn zone) (partIn n part) cols i s h zs
             ∙ ap (λ (l : List Matrix). foldl keep l (later (s + 1))) e;
       }
+
+  -- blank columns add nothing
+  pub going-skip : {list : List ℤ} {built : Built} {s r : ℕ} → Going list built s → NextColumn n (timesIn times) i s r → Going list built r
+  going-skip {list} {built} {s} {r} g c = go (r - s) s (omega (arith, c .from)) (omega arith) g
+    where
+      go : (k t : ℕ) → t + k ≡ r → s ≤ t → Going list built t → Going list built r
+      go zero t e h g = let p : t ≡ r = omega arith in rw p at g
+      go (suc k) t e h g =
+          let z = without n (timesIn times) (boundsIn zone) (partIn n part) cols i t (c .blank t h (omega arith)) in
+          go k (t + 1) (omega arith) (omega arith)
+          (going-past g (omega (arith, c .to)) (here-none n (timesIn times) (boundsIn zone) (partIn n part) cols i t z (listIn (size n) (built .count) list)))
 
   -- a column that leaves a set, whose rows below were put to the list
   module _ {list list′ : List ℤ} {built built′ : Built} {s : ℕ} (g : Going list built s) (h : s ≤ n) (row : i ≤ n) (fit : i < length cols) (next : List ℤ)

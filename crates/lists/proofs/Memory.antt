@@ -1,7 +1,7 @@
 -- Lists of zones in memory: the tests of equality, place by place, and one zone more.
 use Prim.Native.Nat.{ℕ, zero, suc, _+_, _*_, _-_, _≤_, _<_}
 use native.Mathlib.Omega.{arith}
-use native.Mathlib.Decide.{decLt}
+use native.Mathlib.Decide.{decLt, ℕ-discrete}
 use native.Mathlib.Nat.{mul-le-mul-right, suc-mul}
 use native.Mathlib.Numerals.{add-one}
 use mathlib.Core.Path.{_≡_, refl, sym, ap, ap₂, _∙_}
@@ -98,6 +98,15 @@ module _ (size : ℕ) (work zone : List ℤ) (k : ℕ) (fits : length zone ≡ s
 pub any-next : {X : Type 0} (t : X → Bool) (f : ℕ → X) (n k : ℕ) → k < n → anyOf t (tabulate (n - k) k f) ≡ (t (f k) || anyOf t (tabulate (n - (k + 1)) (k + 1) f))
 unfolding anyOf tabulate
 any-next t f n k h = let e : n - k ≡ suc (n - (k + 1)) = omega arith in rw (e, add-one k)
+
+-- one of them passes the test
+pub any-found : {X : Type 0} (t : X → Bool) (f : ℕ → X) (m first k : ℕ) → first ≤ k → k < m + first → t (f k) ≡ true → anyOf t (tabulate m first f) ≡ true
+unfolding anyOf tabulate
+any-found t f zero first k l h e = absurd (omega arith)
+any-found t f (suc m) first k l h e = elim (ℕ-discrete k first) [
+  | yes same ↦ rw (← same, e) refl
+  | no other ↦ rw (any-found t f m (suc first) k (omega arith) (omega arith) e) (elim (t (f first)) as (λ b. (b || true) ≡ true) [ true ↦ refl | false ↦ refl ])
+]
 
 pub any-end : {X : Type 0} (t : X → Bool) (f : ℕ → X) (n k : ℕ) → n ≤ k → anyOf t (tabulate (n - k) k f) ≡ false
 unfolding anyOf tabulate

@@ -12,7 +12,7 @@ use Rattle.model.specs.Matrix.{Matrix, entry, constrain, sameMatrix}
 use Rattle.model.specs.Bound.{most}
 use Rattle.model.specs.Pattern.{pairBound}
 use Rattle.model.specs.Answers.{sevenTimes}
-use Rattle.model.specs.Network.{Time, time, isTime}
+use Rattle.model.specs.Network.{Time, blank, time, isTime}
 use Rattle.model.specs.Search.{selections, rowConstraints, rowsConstraints, pick}
 use Rattle.model.proofs.Listed.{Every, Some}
 use Rattle.model.proofs.Selections.{Cols}
@@ -113,6 +113,12 @@ pub record Covered (n : ℕ) (a : List Time) (d : Matrix) (kept : List Matrix) (
 pub record Noted (n : ℕ) (times zone : List ℤ) (kept : List Matrix) (seen : List ℤ) (counts : List ℕ) : Type 0 where
   pub tables : Tables seen counts
   pub covered : (i c : ℕ) → c < getD counts i 0 → Covered n (timesIn times) (boundsIn zone) kept (i + 1) (zoneAt ((n + 1) * (n + 1)) seen (i * 128 + c))
+
+-- the columns of row i from s on and before r are blank
+pub record NextColumn (n : ℕ) (a : List Time) (i s r : ℕ) : Type 0 where
+  pub from : s ≤ r
+  pub to : r ≤ suc n
+  pub blank : (t : ℕ) → s ≤ t → t < r → time n a i t ≡ blank
 
 -- the zones of a list may be pulled back: each is made of constraints of at most L, so that its entries are at most n * L in size
 pub record Sources (n : ℕ) (times : List ℤ) (zs : List Matrix) : Type 0 where

@@ -13,7 +13,7 @@ ghost use Rattle.model.specs.Pattern.{patternConstraints};
 ghost use Rattle.model.specs.Search.{keep, preimage, selections, previous, common, firstCommon};
 ghost use Rattle.zones.specs.Memory.{boundsIn, timesIn};
 ghost use Rattle.zones.specs.Conditions.{Left, CommonReady};
-ghost use Rattle.lists.specs.Lists.{zoneAt, listIn, Holds, Room, extensions, withColumn, partIn, Selecting, metIn, unmet, Tables, Noting, Noted, Sources, Halves, Meets, Meeting, foundBy};
+ghost use Rattle.lists.specs.Lists.{zoneAt, listIn, Holds, Room, extensions, withColumn, partIn, Selecting, metIn, unmet, Tables, Noting, Noted, NextColumn, Sources, Halves, Meets, Meeting, foundBy};
 use ints::Seconds;
 use model::DEPARTURES;
 use zones::NONE;
@@ -61,12 +61,15 @@ fn same(list: &[i32], k: usize, zone: &[i32], size: usize) -> bool
     true
 }
 
-// Some zone of the list, from zone first on and before zone end, is this one.
+// Some zone of the list, from zone first on and before zone end, is this one. The last ones are looked at first: a set that is made again was
+// most often made a short while ago.
 fn has(list: &[i32], first: usize, end: usize, zone: &[i32], size: usize) -> bool
     requires { ⌜ (length (now zone) ≡ size) × (size ≤ 64) × (first ≤ end) × (end ≤ 4096) × (end * size ≤ length (now list)) ⌝ }
     ensures { λ r. ⌜ r ≡ anyOf (sameMatrix (boundsIn (now (zone .entry)))) (tabulate (end - first) first (zoneAt size (now (list .entry)))) ⌝ }
 {
-    for k in first..end {
+    let mut k = end;
+    while first < k {
+        k -= 1;
         if same(list, k, zone, size) {
             return true;
         }
@@ -199,6 +202,23 @@ fn note(seen: &mut [i32], counts: &mut [usize], zone: [i32; 64], n: usize, i: us
     counts[i] = count + 1;
 }
 
+// A column of row i from s on, or n + 1; those passed over are blank.
+fn next_column(times: &[i32], n: usize, i: usize, s: usize) -> usize
+    requires { ⌜ (length (now times) ≡ n * n) × (n ≤ 7) × (1 ≤ i) × (i ≤ n) × (1 ≤ s) × (s ≤ suc n) ⌝ }
+    ensures { λ r. ⌜ NextColumn n (timesIn (now (times .entry))) i s r ⌝ }
+{
+    let mut t = s;
+    while t <= n {
+        let place = (i - 1) * n + (t - 1);
+        let time = times[place];
+        if !equal(time, NONE) {
+            return t;
+        }
+        t += 1;
+    }
+    t
+}
+
 // The sets of the selections that start so, with any columns in rows i to n, put to the list. A set noted after its row would add nothing.
 fn select(
     list: &mut [i32],
@@ -221,7 +241,7 @@ fn select(
         return keep(list, count, capacity, &part[..size], size);
     }
     let mut built = Built { count, full: false };
-    let mut s = 1;
+    let mut s = next_column(times, n, i, 1);
     while s <= n {
         let next = fresh(p, times, zone, seen, counts, s);
         if next.some {
@@ -233,7 +253,7 @@ fn select(
             }
             note(seen, counts, set, n, i);
         }
-        s += 1;
+        s = next_column(times, n, i, s + 1);
     }
     built
 }

@@ -269,14 +269,17 @@ fn attain(part: &mut [i32], times: &[i32], n: usize, i: usize, s: usize) -> bool
     true
 }
 
-// The image of a.row less that of b.row keeps to the zone.
+// The image of a.row less that of b.row keeps to the zone; where the zone has no bound there, nothing is asked.
 fn keep(part: &mut [i32], times: &[i32], zone: &[i32], n: usize, a: Choice, b: Choice) -> bool
     requires { ⌜ KeepReady n (now part) (now times) (now zone) a b (keepOne n (timesIn (now times)) (boundsIn (now zone)) a b) ⌝ }
     ensures { λ r. ⌜ Taken n (now (part .entry)) (keepOne n (timesIn (now (times .entry))) (boundsIn (now (zone .entry))) a b) r (now (part .exit)) ⌝ }
 {
+    let near = bound_at(zone, n, a.row, b.row);
+    if let Entry::Blank = near {
+        return true;
+    }
     let apart = chosen(times, n, b.row, b.column).minus(chosen(times, n, a.row, a.column));
-    let limit = bound_at(zone, n, a.row, b.row).plus(Entry::Secs(apart));
-    take_in(part, n, a.column, b.column, limit)
+    take_in(part, n, a.column, b.column, near.plus(Entry::Secs(apart)))
 }
 
 // Both ways.

@@ -1,67 +1,63 @@
--- Zone by zone: what is left of the list decides.
+-- Zone by zone, the last first: none of those behind is this one.
 use native.Mathlib.Omega.{arith}
 use native.Mathlib.Nat.{mul-le-mul-right, suc-mul}
-use Prim.Native.Nat.{_+_, _-_, _≤_}
-use mathlib.Core.Path.{_≡_, refl, sym, ap, _∙_}
-use mathlib.Core.Bool.{Bool, _||_}
+use Prim.Native.Nat.{_+_, _-_, _≤_, _<_}
+use mathlib.Core.Path.{_≡_, sym, _∙_}
+use mathlib.Core.Bool.{false}
 use Rattle.model.specs.Lists.{tabulate, anyOf}
 use Rattle.model.specs.Matrix.{sameMatrix}
 use Rattle.zones.specs.Memory.{boundsIn}
 use Rattle.lists.specs.Lists.{zoneAt}
-use Rattle.lists.proofs.Memory.{any-next, any-end}
+use Rattle.lists.proofs.Memory.{any-next, any-found, any-end}
 use Rattle.lists.proofs.has.Statement.{statement}
 use Rattle.lists.proofs.has.Tie as tie
 
 abbrev Inv-loop : tie.InvT-loop
-Inv-loop list first end zone size k₀ k =
-    (k ≤ end) × (anyOf (sameMatrix (boundsIn zone)) (tabulate (end - first) first (zoneAt size list)) ≡ anyOf (sameMatrix (boundsIn zone)) (tabulate (end - k) k (zoneAt size list)))
+Inv-loop list first end zone size k₀ k = (first ≤ k) × (k ≤ end) × (anyOf (sameMatrix (boundsIn zone)) (tabulate (end - k) k (zoneAt size list)) ≡ false)
 
 abbrev μ-loop : tie.MeasureT-loop
-μ-loop list first end zone size k₀ k = end - k
+μ-loop list first end zone size k₀ k = k - first
 
 loop-holds : tie.Need-loop-holds Inv-loop μ-loop
-loop-holds c = (c .pre .2, refl)
+loop-holds c = (c .pre .2, omega arith, any-end _ _ (c .args .end) (c .args .end) (omega arith))
+
+sub-k : tie.Need-sub-k Inv-loop μ-loop
+sub-k c = omega arith
 
 same-requires : tie.Need-same-requires Inv-loop μ-loop
 same-requires c κs =
     let a = c .before .before .args in
     let l = c .before .loop in
-    omega (arith, mul-le-mul-right (a .size) (c .loop-test .taken), suc-mul (l .k) (a .size))
-
--- the zones behind the one looked at
-abbrev rest : tie.After-same Inv-loop μ-loop → Bool
-rest c =
-    let a = c .before .before .before .args in
-    let k = c .before .before .loop .k in
-    anyOf (sameMatrix (boundsIn (a .zone .now))) (tabulate (a .end - (k + 1)) (k + 1) (zoneAt (a .size) (a .list .now)))
-
--- that one, and those
-step : (c : tie.After-same Inv-loop μ-loop) →
-    let a = c .before .before .before .args in
-    anyOf (sameMatrix (boundsIn (a .zone .now))) (tabulate (a .end - a .first) (a .first) (zoneAt (a .size) (a .list .now))) ≡ (c .same .result || rest c)
-step c =
-    let a = c .before .before .before .args in
-    let l = c .before .before .loop in
-    l .inv .1 ∙ any-next (sameMatrix (boundsIn (a .zone .now))) (zoneAt (a .size) (a .list .now)) (a .end) (l .k) (c .before .loop-test .taken)
-    ∙ ap (λ (t : Bool). t || rest c) (sym (c .same .ensures))
+    let h : l .k - 1 < a .end = omega (arith, l .inv .1, c .loop-test .taken) in
+    omega (arith, mul-le-mul-right (a .size) h, suc-mul (l .k - 1) (a .size))
 
 returns : tie.Need-returns Inv-loop μ-loop
-returns c = sym (step (c .before) ∙ ap (λ (t : Bool). t || rest (c .before)) (c .if1 .taken))
-
-add-k : tie.Need-add-k Inv-loop μ-loop
-add-k c = omega arith
+returns c =
+    let x = c .before in
+    let a = x .before .before .before .args in
+    let l = x .before .before .loop in
+    sym (any-found _ (zoneAt (a .size) (a .list .now)) (a .end - a .first) (a .first) (l .k - 1) (omega (arith, x .before .loop-test .taken)) (omega (arith, l .inv .1, x .before .loop-test .taken))
+    (sym (x .same .ensures) ∙ c .if1 .taken))
 
 loop-less : tie.Need-loop-less Inv-loop μ-loop
-loop-less c = omega arith
+loop-less c = let h = c .before .before .loop-test .taken in omega arith
 
 loop-again : tie.Need-loop-again Inv-loop μ-loop
-loop-again c = (omega arith, step (c .before) ∙ ap (λ (t : Bool). t || rest (c .before)) (c .if1 .left))
+loop-again c =
+    let x = c .before in
+    let a = x .before .before .before .args in
+    let l = x .before .before .loop in
+    let h = x .before .loop-test .taken in
+    let e : l .k - 1 + 1 ≡ l .k = omega arith in
+    let next = any-next (sameMatrix (boundsIn (a .zone .now))) (zoneAt (a .size) (a .list .now)) (a .end) (l .k - 1) (omega (arith, l .inv .1)) in
+    (omega arith, omega (arith, l .inv .1), next ∙ rw (e, sym (x .same .ensures) ∙ c .if1 .left) (l .inv .2))
 
 returns-2 : tie.Need-returns-2 Inv-loop μ-loop
 returns-2 c =
     let a = c .before .before .args in
     let l = c .before .loop in
-    sym (l .inv .1 ∙ any-end (sameMatrix (boundsIn (a .zone .now))) (zoneAt (a .size) (a .list .now)) (a .end) (l .k) (c .loop-test .left))
+    let e : l .k ≡ a .first = omega (arith, l .inv .0, c .loop-test .left) in
+    sym (rw e at (l .inv .2))
 
 pub has-spec : {M : Type 1} → statement M
 has-spec =
@@ -70,9 +66,9 @@ has-spec =
     Inv-loop
     μ-loop
     loop-holds
+    sub-k
     same-requires
     returns
-    add-k
     loop-less
     loop-again
     returns-2)

@@ -1,19 +1,36 @@
--- The limit is that of the definition.
-use borrow.Author.Needs.{needs}
+-- The limit is that of the definition, where there is one.
 use Prim.Native.Nat.{suc, _+_, _≤_}
 use native.Mathlib.Omega.{arith}
-use mathlib.Core.Path.{_≡_, ap₂, _∙_}
+use mathlib.Core.Path.{_≡_, refl, sym, ap, ap₂, _∙_}
 use lib.IntN.{ℤ, natAbs, _-ℤ_}
 use Rattle.model.specs.Bound.{most, plus}
-use Rattle.model.specs.Matrix.{entry}
+use Rattle.model.specs.Matrix.{entry, constrain, within}
 use Rattle.model.specs.Search.{chosen, keeps}
 use Rattle.model.proofs.Size.{sized, small-mono, small-sum, minus-small}
 use Rattle.zones.specs.declared.Choice.{Choice}
 use Rattle.zones.specs.Memory.{boundsIn, timesIn}
+use Rattle.zones.specs.Conditions.{kept}
 use Rattle.zones.specs.Inner.{bound, InMemory}
 use Rattle.zones.proofs.Numbers.{wide}
+use borrow.Author.Needs.{needs}
 use Rattle.zones.proofs.keep.Statement.{statement}
 use Rattle.zones.proofs.keep.Tie as tie
+
+bound-at-requires : tie.Need-bound-at-requires
+bound-at-requires c κs = search needs
+
+enum-told : tie.Need-enum-told
+enum-told c = search needs
+
+returns : tie.Need-returns
+unfolding keeps plus constrain within
+returns c =
+    let x = c .before .before in
+    let e = sym (x .bound-at .ensures .is) ∙ ap bound (c .enum-told .given .1) in
+    rw e (kept refl)
+
+enum-told-2 : tie.Need-enum-told-2
+enum-told-2 c = search needs
 
 chosen-requires : tie.Need-chosen-requires
 chosen-requires c κs = search needs
@@ -27,49 +44,51 @@ apart c = minus-small (c .before .chosen .result .0) (c .chosen2 .result .0) (c 
 minus-requires : tie.Need-minus-requires
 minus-requires c κs = let h = apart c in wide _ (omega arith)
 
-bound-at-requires : tie.Need-bound-at-requires
-bound-at-requires c κs = search needs
-
 plus-requires : tie.Need-plus-requires
 plus-requires c κs =
     let m = c .before in
+    let x = m .before .before .before .before .before in
     small-mono (omega arith)
-    (small-sum {C = InMemory + InMemory} (c .bound-at .ensures .small) (sized {z = m .minus .result .0} (rw (m .minus .ensures) (apart (m .before)))))
+    (small-sum {C = InMemory + InMemory} (x .bound-at .ensures .small) (sized {z = m .minus .result .0} (rw (m .minus .ensures) (apart (m .before)))))
 
 limit : (c : tie.After-plus) →
-    let s = c .before .before .before .before .before .args in
+    let s = c .before .before .before .before .before .before .before .before .args in
     let added : Choice → ℤ = λ e. chosen (s .n) (timesIn (s .times .now)) (e .row) (e .column) in
     bound (c .plus .result) ≡ plus (entry (suc (s .n)) (boundsIn (s .zone .now)) (s .a .row) (s .b .row)) (most (added (s .b) -ℤ added (s .a)))
 limit c =
-    let x = c .before in
-    let y = x .before .before in
-    let e = x .before .minus .ensures ∙ ap₂ _-ℤ_ (y .before .chosen .ensures .is) (y .chosen2 .ensures .is) in
+    let m = c .before .before in
+    let y = m .before in
+    let x = y .before .before .before .before in
+    let e = m .minus .ensures ∙ ap₂ _-ℤ_ (y .before .chosen .ensures .is) (y .chosen2 .ensures .is) in
     c .plus .ensures ∙ ap₂ (λ b z. plus b (most z)) (x .bound-at .ensures .is) e
 
 take-in-requires : tie.Need-take-in-requires
 unfolding keeps
 take-in-requires c κs =
-    let s = c .before .before .before .before .before .before in
-    rw (limit (c .before)) (s .pre .taking)
+    let s = c .before .before .before .before .before .before .before .before in
+    rw (limit c) (s .pre .taking)
 
 same-length : tie.Need-same-length
 same-length c = search needs
 
-returns : tie.Need-returns
+returns-2 : tie.Need-returns-2
 unfolding keeps
-returns c =
+returns-2 c =
     let q = c .before in
-    rw (limit (q .before .before)) at (q .take-in .ensures)
+    rw (limit (q .before)) at (q .take-in .ensures)
 
 pub keep-spec : {M : Type 1} → statement M
 keep-spec =
     tie.close
     (tie.spec
+    bound-at-requires
+    enum-told
+    returns
+    enum-told-2
     chosen-requires
     chosen-requires-2
     minus-requires
-    bound-at-requires
     plus-requires
     take-in-requires
     same-length
-    returns)
+    returns-2)
