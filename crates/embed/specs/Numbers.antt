@@ -16,23 +16,8 @@ use Rattle.model.specs.declared.Judged.{Judged}
 use Rattle.model.specs.declared.Judged.the-variants as judged
 use Rattle.model.specs.declared.Run.{Run}
 use Rattle.model.specs.Lists.{tabulate}
-use Rattle.model.specs.Faults.{number}
 use Rattle.model.specs.Packed.{caseOf}
-use Rattle.model.specs.Answers.{seconds, cycleNumber, value}
-
--- which verdict it is
-abbrev pub kind : Verdict → ℕ
-kind (verdict.Refused f) = 0
-kind (verdict.Reached k) = 1
-kind (verdict.Clear h) = 2
-kind verdict.Never = 3
-
--- the fault's number, 0 where there is none
-abbrev pub faultOf : Verdict → ℕ
-faultOf (verdict.Refused f) = number f
-faultOf (verdict.Reached k) = 0
-faultOf (verdict.Clear h) = 0
-faultOf verdict.Never = 0
+use Rattle.model.specs.Answers.{seconds, cycleNumber, numbersOf}
 
 -- a run as an answer: its cycle is reached, with the times of that cycle
 abbrev pub runVerdict : Judged → ℕ → Verdict
@@ -50,9 +35,9 @@ timesIn xs = map seconds xs
 
 -- an answer as it is handed back: the number returned, the two numbers lent, the times lent
 pub record Told (r : Answer) (returned first second : ℕ) (lent : List ℤ) : Type 0 where
-  pub which : returned ≡ kind (r .verdict)
-  pub fault : first ≡ faultOf (r .verdict)
-  pub number : second ≡ value (r .verdict)
+  pub kind : returned ≡ numbersOf (r .verdict) .kind
+  pub fault : first ≡ numbersOf (r .verdict) .fault
+  pub value : second ≡ numbersOf (r .verdict) .value
   pub times : lent ≡ plainTimes (r .start)
 
 -- an entry of a case in two lent arrays: it is there where the first has another number than 0

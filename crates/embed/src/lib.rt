@@ -1,14 +1,11 @@
 // The library for C and Rust: verdicts and runs on numbers and lent arrays. No function asks anything of its caller.
 ghost use mathlib.Core.Path.{_≡_};
-ghost use mathlib.Core.List.{map};
 ghost use Prim.Native.Nat.{_+_, _≤_, _<_};
 ghost use lib.ListN.{length};
 ghost use Rattle.model.specs.Lists.{padded, tabulate};
 ghost use Rattle.model.specs.Faults.{nothing};
-ghost use Rattle.model.specs.Answers;
 ghost use Rattle.model.specs.Answers.{answer, workspaceAfter, answerPacked, workspaceAfterPacked, run};
-ghost use Rattle.embed.specs.Numbers;
-ghost use Rattle.embed.specs.Numbers.{Told, faultOf, runVerdict, runAnswer, plainTimes, timesIn, slotAt, caseIn};
+ghost use Rattle.embed.specs.Numbers.{Told, runVerdict, runAnswer, plainTimes, timesIn, slotAt, caseIn};
 use ints::Cycle;
 use ints::Seconds;
 use model::Answer;
@@ -33,39 +30,6 @@ const NOTHING: Slot = Slot {
     has: false,
     value: ZERO,
 };
-
-fn kind(verdict: Verdict) -> u32
-    ensures { λ r. ⌜ r ≡ Numbers.kind verdict ⌝ }
-{
-    match verdict {
-        Verdict::Refused(_) => 0,
-        Verdict::Reached(_) => 1,
-        Verdict::Clear(_) => 2,
-        Verdict::Never => 3,
-    }
-}
-
-fn fault_of(verdict: Verdict) -> usize
-    ensures { λ r. ⌜ r ≡ faultOf verdict ⌝ }
-{
-    match verdict {
-        Verdict::Refused(fault) => fault.number() as usize,
-        Verdict::Reached(_) => 0,
-        Verdict::Clear(_) => 0,
-        Verdict::Never => 0,
-    }
-}
-
-fn value_of(verdict: Verdict) -> usize
-    ensures { λ r. ⌜ r ≡ Answers.value verdict ⌝ }
-{
-    match verdict {
-        Verdict::Refused(fault) => fault.returned(),
-        Verdict::Reached(cycle) => cycle.0,
-        Verdict::Clear(horizon) => horizon.0,
-        Verdict::Never => 0,
-    }
-}
 
 fn plain_times(times: [Seconds; DEPARTURES]) -> [i64; DEPARTURES]
     ensures { λ r. ⌜ r ≡ plainTimes times ⌝ }
@@ -96,10 +60,10 @@ fn tell(answer: Answer, fault: &mut usize, value: &mut usize, times: &mut [i64; 
 {
     let verdict = answer.verdict;
     let start = answer.start;
-    *fault = fault_of(verdict);
-    *value = value_of(verdict);
+    *fault = verdict.fault();
+    *value = verdict.value();
     *times = plain_times(start);
-    kind(verdict)
+    verdict.kind()
 }
 
 fn run_verdict(judged: Judged, cycle: Cycle) -> Verdict

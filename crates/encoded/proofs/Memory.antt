@@ -18,9 +18,10 @@ use Rattle.model.specs.Bound as B
 use Rattle.model.specs.Bound.{most, sameZ}
 use Rattle.model.specs.Network.{blank, secs}
 use Rattle.model.specs.Faults.{timeOf, boundOf, nothing, beyond}
+use Rattle.model.specs.Lists.{Every}
+use Rattle.model.specs.Conditions.{InLimit}
 use Rattle.model.proofs.Same.{sameZ-true, sameZ-refl}
-use Rattle.model.proofs.Listed.{Every, at-getD}
-use Rattle.model.proofs.Limits.{InLimit}
+use Rattle.model.proofs.Listed.{at-getD}
 use Rattle.zones.specs.Memory.{boundIn, timeIn}
 
 -- ---- one number

@@ -16,18 +16,18 @@ use Rattle.model.specs.Bound.{sameZ}
 use Rattle.model.specs.Matrix.{Matrix, Constraint, constrain}
 use Rattle.model.specs.Network.{Time, blank, secs, time, isTime}
 use Rattle.model.specs.Search.{attains, keeps, rowConstraints}
-use Rattle.model.proofs.Cycles.{Column}
-use Rattle.model.proofs.Closed.{Closed}
+use Rattle.model.specs.Conditions.{Column, Closed, Chosen, Cols, image, sum, Imaged, Before, Small, Made}
+use Rattle.model.specs.Lists.{Every}
 use Rattle.model.proofs.Zones.{tighten-closed}
 use Rattle.model.proofs.Patterns.{closed-some}
-use Rattle.model.proofs.Selections.{Chosen, Cols, chosen-at}
+use Rattle.model.proofs.Selections.{chosen-at}
 use Rattle.model.proofs.Rows.{of-row}
-use Rattle.model.proofs.Preimage.{image, row-fits}
-use Rattle.model.proofs.Images.{sum, Imaged, Before, row-imaged}
-use Rattle.model.proofs.Size.{Small, small-mono}
-use Rattle.model.proofs.Sizes.{Made, row-small, made-all}
+use Rattle.model.proofs.Preimage.{row-fits}
+use Rattle.model.proofs.Images.{row-imaged}
+use Rattle.model.proofs.Size.{small-mono}
+use Rattle.model.proofs.Sizes.{row-small, made-all}
 use Rattle.model.proofs.Tabulated.{tabulate-ext}
-use Rattle.model.proofs.Listed.{Every, every-map}
+use Rattle.model.proofs.Listed.{every-map}
 use Rattle.zones.specs.Memory.{boundsIn, timeIn, timesIn}
 use Rattle.zones.specs.Conditions.{RowReady}
 use Rattle.lists.specs.Lists.{withColumn, partIn, Selecting, NextColumn}

@@ -7,16 +7,17 @@ use mathlib.Core.List.{List, [], _∷_, map, foldl}
 use mathlib.Core.Option.{Option, none, some}
 use lib.IntN.{ℤ}
 use lib.ListN.{getD}
-use Rattle.model.specs.Lists.{anyOf}
+use Rattle.model.specs.Lists.{anyOf, Every, done, both, Some, here, there}
 use Rattle.model.specs.Matrix.{Matrix, sameMatrix}
 use Rattle.model.specs.Network.{Time}
 use Rattle.model.specs.Search.{keep}
-use Rattle.model.proofs.Listed.{Every, done, both, every-map, every-tabulate, Some, here, there, some-at, every-some}
+use Rattle.model.specs.Conditions.{Before}
+use Rattle.model.proofs.Listed.{every-map, every-tabulate, some-at, every-some}
 use Rattle.model.proofs.Zones.{Is}
 use Rattle.model.proofs.Same.{sameMatrix-true}
 use Rattle.model.proofs.Kept.{Keeps, empty, there-already, new, keep-is, kept-old, of-kept, anyOf-true}
 use Rattle.model.proofs.Selections.{selections-sound}
-use Rattle.model.proofs.Images.{Before, same-left}
+use Rattle.model.proofs.Images.{same-left}
 use Rattle.zones.specs.Memory.{boundsIn, timesIn}
 use Rattle.lists.specs.Lists.{zoneAt, extensions, withColumn, partIn, Selecting, metIn, unmet, Noting, Old, Covered, Noted}
 use Rattle.lists.proofs.Columns.{in-cols, next-before}

@@ -1,11 +1,10 @@
 -- The sets of all selections, row by row: an empty set adds nothing, whatever the rows below it pick.
 use Prim.Native.Nat.{ℕ, suc, _-_, _≤_}
 use native.Mathlib.Omega.{arith}
-use mathlib.Core.Path.{_≡_, refl, ap, _∙_}
+use mathlib.Core.Path.{_≡_, refl, sym, ap, _∙_}
 use mathlib.Core.Bool.{true, false, cond}
-use mathlib.Core.List.{List, [], _∷_, _++_, map, map-append, map-map, flatMap, foldl, foldl-append}
+use mathlib.Core.List.{List, [], _∷_, _++_, map, map-append, map-map, flatMap, foldl, foldl-append, append-nil, append-assoc}
 use mathlib.Core.Option.{Option, none, some}
-use lib.ListN.{length, length-append}
 use Rattle.model.specs.Lists.{anyOf}
 use Rattle.model.specs.Matrix.{Matrix, Constraint, constrain, sameMatrix}
 use Rattle.model.specs.Network.{Time, blank, secs, time, isTime}
@@ -23,18 +22,21 @@ unfolding keep
 keep-none f h kept [] = refl
 keep-none f h kept (x ∷ xs) = ap (λ (o : Option Matrix). foldl keep (keep kept o) (map f xs)) (h x) ∙ keep-none f h kept xs
 
--- ---- a list of kept zones does not get shorter
-keep-grows : (kept : List Matrix) (o : Option Matrix) → length kept ≤ length (keep kept o)
+-- ---- a list of kept zones keeps its front
+keep-front : (kept : List Matrix) (o : Option Matrix) → (more : List Matrix) × (keep kept o ≡ kept ++ more)
 unfolding keep
-keep-grows kept none = omega arith
-keep-grows kept (some z) = elim (anyOf (sameMatrix z) kept) as (λ t. length kept ≤ length (cond t kept (kept ++ (z ∷ [])))) [
-  | true ↦ omega arith
-  | false ↦ omega (arith, length-append kept (z ∷ []))
+keep-front kept none = ([], sym (append-nil kept))
+keep-front kept (some z) = elim (anyOf (sameMatrix z) kept) as (λ t. (more : List Matrix) × (cond t kept (kept ++ (z ∷ [])) ≡ kept ++ more)) [
+  | true ↦ ([], sym (append-nil kept))
+  | false ↦ (z ∷ [], refl)
 ]
 
-pub kept-grows : (kept : List Matrix) (os : List (Option Matrix)) → length kept ≤ length (foldl keep kept os)
-kept-grows kept [] = omega arith
-kept-grows kept (o ∷ os) = omega (arith, keep-grows kept o, kept-grows (keep kept o) os)
+pub kept-front : (kept : List Matrix) (os : List (Option Matrix)) → (more : List Matrix) × (foldl keep kept os ≡ kept ++ more)
+kept-front kept [] = ([], sym (append-nil kept))
+kept-front kept (o ∷ os) =
+    let (more, e) = keep-front kept o in
+    let (rest, f) = kept-front (keep kept o) os in
+    (more ++ rest, f ∙ ap (λ (l : List Matrix). l ++ rest) e ∙ append-assoc kept more rest)
 
 -- ---- maps and flat maps
 map-flatMap : {X Y Z : Type 0} (f : Y → Z) (g : X → List Y) (xs : List X) → map f (flatMap g xs) ≡ flatMap (λ x. map f (g x)) xs

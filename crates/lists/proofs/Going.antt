@@ -14,8 +14,8 @@ use Rattle.lists.specs.declared.Built.{Built}
 use Rattle.lists.specs.Lists.{listIn, Holds, Room, extensions, withColumn, partIn, NextColumn}
 use Rattle.lists.proofs.Keeping.{length-listIn, in-place}
 use Rattle.lists.proofs.Columns.{without}
-use Rattle.lists.proofs.Extensions.{kept-grows, extensions-end}
-use Rattle.lists.proofs.Selecting.{held-full, held-open, held-list, from, from-first, from-next, from-end, here, here-none, here-some}
+use Rattle.lists.proofs.Extensions.{extensions-end}
+use Rattle.lists.proofs.Selecting.{held-open, held-list, held-still, from, from-first, from-next, from-end, here, here-none, here-some}
 
 -- what a set becomes with a column, by the answer
 abbrev pub size : ℕ → ℕ
@@ -112,13 +112,7 @@ module _ (n capacity count : ℕ) (list₀ times zone part : List ℤ) (cols : L
     -- the list has no room for them
     pub going-full : built′ .full ≡ true → Holds (size n) capacity whole built′ list₀ list′
     unfolding made
-    going-full e =
-        let more : capacity < length whole = rw whole-is (omega (arith, held-full held e, kept-grows made (later (s + 1)))) in
-        record {
-          beyond = held .beyond ∙ g .beyond;
-          fits = λ f. absurd (omega arith);
-          full = λ f. e;
-        }
+    going-full e = rw whole-is (held-still held e (later (s + 1)) list₀ (g .beyond))
 
   -- all columns are done
   pub going-done : {list : List ℤ} {built : Built} {s : ℕ} → Going list built s → n < s → Holds (size n) capacity whole built list₀ list

@@ -8,7 +8,7 @@ use mathlib.Core.List.{List, [], _∷_, _++_}
 use mathlib.Core.Option.{some}
 use lib.IntN.{ℤ}
 use lib.ListN.{length, drop, length-append}
-use lib.Seq.{paste}
+use lib.Seq.{paste, take-at}
 use Rattle.model.specs.Lists.{anyOf}
 use Rattle.model.specs.Matrix.{Matrix, sameMatrix}
 use Rattle.model.specs.Search.{keep}
@@ -49,7 +49,7 @@ module _ (size capacity count : ℕ) (list : List ℤ) (room : Room size capacit
         rw (e, keep) (record {
           beyond = refl;
           fits = λ f. absurd (omega arith);
-          full = λ f. refl;
+          full = λ f. (ap (λ (k : ℕ). record { count = k; full = true }) same, rw (← same) (sym (take-at (listIn size count list) (z ∷ []) count (length-listIn size count list))));
         })
 
   pub holds-new : (zone : List ℤ) → length zone ≡ size → anyOf (sameMatrix (boundsIn zone)) (listIn size count list) ≡ false → (count ≡ capacity → ⊥)

@@ -12,16 +12,15 @@ use lib.IntN.{ℤ}
 use lib.ListN.{length, take, drop, length-drop, length-append, drop-of-length-le}
 use borrow.Rule.Slice.PartMut.{putMid}
 use lib.Seq.{drop-drop, take-all, take-take, take-at, drop-at, length-take-le}
-use Rattle.model.specs.Lists.{tabulate}
+use Rattle.model.specs.Lists.{tabulate, done, both}
 use Rattle.model.specs.Matrix.{Matrix}
 use Rattle.model.specs.Search.{selections, preimage, keep, previous}
-use Rattle.model.proofs.Listed.{done, both, at-tabulate}
+use Rattle.model.proofs.Listed.{at-tabulate}
 use Rattle.zones.specs.Memory.{boundsIn, timesIn}
 use Rattle.lists.specs.declared.Built.{Built}
 use Rattle.lists.specs.Lists.{zoneAt, listIn, Holds, Room, partIn, Sources, Halves}
 use Rattle.lists.proofs.Keeping.{length-listIn, in-place}
-use Rattle.lists.proofs.Extensions.{kept-grows}
-use Rattle.lists.proofs.Selecting.{held-full, held-open, held-list}
+use Rattle.lists.proofs.Selecting.{held-open, held-list, held-still}
 use Rattle.lists.proofs.Columns.{few-bounds}
 use Rattle.lists.proofs.Going.{size}
 
@@ -163,9 +162,7 @@ module _ (n capacity count source goal : ℕ) (times work₀ : List ℤ) (halves
           }
 
       pub pulling-full : built′ .full ≡ true → Holds (size n) capacity listed built′ (drop goal work₀) (drop goal after)
-      pulling-full e =
-          let more : capacity < length listed = rw listed-is (omega (arith, held-full held e, kept-grows (foldl keep (listIn (size n) (built .count) (drop goal work)) (backOf (zoneOf k))) (left (k + 1)))) in
-          record { beyond = beyond-is; fits = λ f. absurd (omega arith); full = λ f. e }
+      pulling-full e = rw (listed-is, goal-is) (held-still held e (left (k + 1)) (drop goal work₀) (g .beyond))
 
     pub pulling-done : count ≤ k → Holds (size n) capacity listed built (drop goal work₀) (drop goal work)
     unfolding tabulate flatMap

@@ -1,5 +1,5 @@
 -- The loop over the columns of a row: what is left of the sets to be put to the list, and how the list ends.
-use Prim.Native.Nat.{ℕ, suc, _+_, _-_, _≤_, _<_}
+use Prim.Native.Nat.{ℕ, suc, _+_, _*_, _-_, _≤_, _<_}
 use native.Mathlib.Omega.{arith}
 use native.Mathlib.Decide.{decLt}
 use native.Mathlib.Numerals.{add-one}
@@ -8,14 +8,14 @@ use mathlib.Core.Bool.{true, false}
 use mathlib.Core.List.{List, [], _∷_, _++_, flatMap, foldl}
 use mathlib.Core.Option.{Option, none, some}
 use lib.IntN.{ℤ}
-use lib.ListN.{length, take, set}
-use lib.Seq.{take-suc-set}
+use lib.ListN.{length, take, drop, set, length-append}
+use lib.Seq.{take-suc-set, take-append-le}
 use Rattle.model.specs.Matrix.{Matrix, constrain}
 use Rattle.model.specs.Network.{Time, blank, secs, time}
 use Rattle.model.specs.Search.{columns, keep}
 use Rattle.lists.specs.declared.Built.{Built}
 use Rattle.lists.specs.Lists.{listIn, Holds, extensions, withColumn}
-use Rattle.lists.proofs.Extensions.{byColumn, extensions-more, extensions-none, columns-blank, columns-time}
+use Rattle.lists.proofs.Extensions.{kept-front, byColumn, extensions-more, extensions-none, columns-blank, columns-time}
 use Rattle.lists.proofs.Columns.{without, with-time, row-prefix}
 
 -- ---- how a list that is held ends
@@ -33,7 +33,9 @@ module _ {size capacity : ℕ} {zs : List Matrix} {r : Built} {before after : Li
   held-open e = go (decLt capacity (length zs))
     where
       go : Dec (capacity < length zs) → length zs ≤ capacity
-      go (yes p) = let f = h .full p in let z : _≡_ {A = ℕ} 0 1 = cc in absurd (omega arith)
+      go (yes p) =
+          let f : r .full ≡ true = ap (λ (b : Built). b .full) (h .full p .0) in
+          let z : _≡_ {A = ℕ} 0 1 = cc in absurd (omega arith)
       go (no p) = omega arith
 
   pub held-list : r .full ≡ false → (r .count ≡ length zs) × (listIn size (r .count) after ≡ zs)
@@ -41,6 +43,20 @@ module _ {size capacity : ℕ} {zs : List Matrix} {r : Built} {before after : Li
       let (f, l) = h .fits (held-open e) in
       let c : r .count ≡ length zs = ap (λ (b : Built). b .count) f in
       (c, ap (λ (k : ℕ). listIn size k after) c ∙ l)
+
+  -- where it is full, it is full with whatever is put to it after that
+  pub held-still : r .full ≡ true → (os : List (Option Matrix)) (first : List ℤ) → drop (capacity * size) before ≡ drop (capacity * size) first
+      → Holds size capacity (foldl keep zs os) r first after
+  held-still e os first same =
+      let (more, is) = kept-front zs os in
+      let long : capacity < length zs = held-full e in
+      let longer : capacity < length (foldl keep zs os) = rw is (omega (arith, length-append zs more)) in
+      let front : take capacity (foldl keep zs os) ≡ take capacity zs = rw is (take-append-le capacity zs more (omega arith)) in
+      record {
+        beyond = h .beyond ∙ same;
+        fits = λ f. absurd (omega arith);
+        full = λ f. (h .full long .0, h .full long .1 ∙ sym front);
+      }
 
 -- ---- column by column
 module _ (n : ℕ) (a : List Time) (d part : Matrix) (cols : List ℕ) (i : ℕ) where

@@ -12,8 +12,8 @@ use Rattle.model.specs.Network.{Time}
 use Rattle.model.specs.Lists.{tabulate, anyOf}
 use Rattle.model.specs.Pattern.{patternConstraints}
 use Rattle.model.specs.Search.{selections, preimage, keep}
+use Rattle.model.specs.Conditions.{clock}
 use Rattle.model.proofs.Listed.{of-both}
-use Rattle.model.proofs.Selections.{clock}
 use Rattle.model.proofs.Images.{clock-imaged}
 use Rattle.model.proofs.Sizes.{made-small, made-everything}
 use Rattle.zones.specs.Memory.{boundsIn, timesIn}

@@ -7,18 +7,14 @@ use mathlib.Core.List.{List, [], map, foldl}
 use mathlib.Core.Option.{Option, none, some}
 use lib.IntN.{ℤ, natAbs}
 use lib.ListN.{length, take, drop, getD}
-use Rattle.model.specs.Lists.{tabulate, anyOf}
+use Rattle.model.specs.Lists.{tabulate, anyOf, Every, Some}
 use Rattle.model.specs.Matrix.{Matrix, entry, constrain, sameMatrix}
 use Rattle.model.specs.Bound.{most}
 use Rattle.model.specs.Pattern.{pairBound}
 use Rattle.model.specs.Answers.{sevenTimes}
 use Rattle.model.specs.Network.{Time, blank, time, isTime}
-use Rattle.model.specs.Search.{selections, rowConstraints, rowsConstraints, pick}
-use Rattle.model.proofs.Listed.{Every, Some}
-use Rattle.model.proofs.Selections.{Cols}
-use Rattle.model.proofs.Images.{Imaged, Before}
-use Rattle.model.proofs.Size.{Small}
-use Rattle.model.proofs.Sizes.{Made, TimesSmall}
+use Rattle.model.specs.Search.{selections, rowConstraints, rowsConstraints, previous, pick}
+use Rattle.model.specs.Conditions.{Cols, Imaged, Before, Small, Made, TimesSmall}
 use Rattle.zones.specs.Memory.{boundsIn, timesIn}
 use Rattle.zones.specs.Conditions.{Limit}
 use Rattle.lists.specs.declared.Built.{Built}
@@ -32,12 +28,12 @@ zoneAt size work k = boundsIn (take size (drop (k * size) work))
 unfoldable pub listIn : ℕ → ℕ → List ℤ → List Matrix
 listIn size count work = tabulate count 0 (zoneAt size work)
 
--- the list zs, or that it is longer than the capacity; what lies beyond the capacity's zones is not touched.
--- Where the list is too long the zones themselves and the count are free.
+-- the list zs; where it is longer than the capacity, its first zones, as many as that, and that it is full. What lies beyond the
+-- capacity's zones is not touched. Free: the numbers of the capacity's zones behind the list
 pub record Holds (size capacity : ℕ) (zs : List Matrix) (r : Built) (before after : List ℤ) : Type 0 where
   pub beyond : drop (capacity * size) after ≡ drop (capacity * size) before
   pub fits : length zs ≤ capacity → (r ≡ record { count = length zs; full = false }) × (listIn size (length zs) after ≡ zs)
-  pub full : capacity < length zs → r .full ≡ true
+  pub full : capacity < length zs → (r ≡ record { count = capacity; full = true }) × (listIn size capacity after ≡ take capacity zs)
 
 -- a half of the workspace with a list in it, and a zone to put to it
 pub record Room (size capacity count : ℕ) (work : List ℤ) : Type 0 where
@@ -158,3 +154,9 @@ pub record Meeting (n base count : ℕ) (work pattern : List ℤ) : Type 0 where
 unfoldable pub foundBy : ℕ → Option Matrix → Found
 foundBy n none = record { some = false; start = sevenTimes [] }
 foundBy n (some c) = record { some = true; start = sevenTimes (pick n c) }
+
+-- the list made from the list at source. Free: what seen holds; its length is unchanged
+pub record NextList (n capacity source goal count : ℕ) (times work seen : List ℤ) (r : Built) (work′ seen′ : List ℤ) : Type 0 where
+  pub list : Holds ((n + 1) * (n + 1)) capacity (previous n (timesIn times) (listIn ((n + 1) * (n + 1)) count (drop source work))) r (drop goal work) (drop goal work′)
+  pub front : take goal work′ ≡ take goal work
+  pub seen-size : length seen′ ≡ length seen

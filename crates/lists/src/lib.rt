@@ -10,10 +10,10 @@ ghost use Rattle.model.specs.Lists.{tabulate, anyOf};
 ghost use Rattle.model.specs.Bound.{sameZ};
 ghost use Rattle.model.specs.Matrix.{sameMatrix, everything, tighten};
 ghost use Rattle.model.specs.Pattern.{patternConstraints};
-ghost use Rattle.model.specs.Search.{keep, preimage, selections, previous, common, firstCommon};
+ghost use Rattle.model.specs.Search.{keep, preimage, selections, common, firstCommon};
 ghost use Rattle.zones.specs.Memory.{boundsIn, timesIn};
 ghost use Rattle.zones.specs.Conditions.{Left, CommonReady};
-ghost use Rattle.lists.specs.Lists.{zoneAt, listIn, Holds, Room, extensions, withColumn, partIn, Selecting, metIn, unmet, Tables, Noting, Noted, NextColumn, Sources, Halves, Meets, Meeting, foundBy};
+ghost use Rattle.lists.specs.Lists.{zoneAt, listIn, Holds, Room, extensions, withColumn, partIn, Selecting, metIn, unmet, Tables, Noting, Noted, NextColumn, Sources, Halves, NextList, Meets, Meeting, foundBy};
 use ints::Seconds;
 use model::DEPARTURES;
 use zones::NONE;
@@ -328,7 +328,7 @@ fn pull_back(
     )
 }
 
-// The list made from the list at source, at goal. Nothing outside the half at goal changes.
+// The list made from the list at source, at goal. Nothing of the workspace outside the half at goal changes.
 pub fn next_list(
     work: &mut [i32],
     source: usize,
@@ -340,7 +340,7 @@ pub fn next_list(
     n: usize,
 ) -> Built
     requires { ⌜ Halves n capacity source goal (now work) × (count ≤ capacity) × Sources n (now times) (listIn ((n + 1) * (n + 1)) count (drop source (now work))) × (length (now seen) ≡ 65536) ⌝ }
-    ensures { λ r. ⌜ Holds ((n + 1) * (n + 1)) capacity (previous n (timesIn (now (times .entry))) (listIn ((n + 1) * (n + 1)) count (drop source (now (work .entry))))) r (drop goal (now (work .entry))) (drop goal (now (work .exit))) × (take goal (now (work .exit)) ≡ take goal (now (work .entry))) ⌝ }
+    ensures { λ r. ⌜ NextList n capacity source goal count (now (times .entry)) (now (work .entry)) (now (seen .entry)) r (now (work .exit)) (now (seen .exit)) ⌝ }
 {
     let size = (n + 1) * (n + 1);
     let mut built = Built {

@@ -15,12 +15,13 @@ use Rattle.ints.proofs.Integers.{up, dn, ints, add-ud, neg-ud, sub-ud}
 use Rattle.model.specs.Bound as B
 use Rattle.model.specs.Bound.{Bound, most, LeB, any, Holds, plus}
 use Rattle.model.proofs.Bounds.{bounds, holds-none, holds-sum, under, over, between, leB-refl, leB-trans, plus-assoc, plus-left-comm, plus-comm, plus-none, tighter-either, tighter-left, tighter-right}
-use Rattle.model.specs.Lists.{tabulate}
-use Rattle.model.specs.Matrix.{Matrix, entry, relaxed}
+use Rattle.model.specs.Lists.{tabulate, Every, done, both}
+use Rattle.model.specs.Matrix.{Matrix, entry, relaxed, Member}
 use Rattle.model.specs.Search.{tightest}
-use Rattle.model.proofs.Listed.{Every, done, both, at-tabulate, every-tabulate}
-use Rattle.model.proofs.Closed.{Closed, Within, kept, within-closed}
-use Rattle.model.proofs.Members.{Member, within-sound}
+use Rattle.model.specs.Conditions.{Closed, earliest, latest, tightestOf}
+use Rattle.model.proofs.Listed.{at-tabulate, every-tabulate}
+use Rattle.model.proofs.Closed.{Within, kept, within-closed}
+use Rattle.model.proofs.Members.{within-sound}
 
 -- what is at least as tight as the tightest of a list is so for each, and what holds of none and of each holds of the tightest
 tightest-each : {u : Bound} (bs : List Bound) → LeB u (tightest bs) → Every (LeB u) bs
@@ -32,10 +33,6 @@ tightest-either : (P : Bound → Type 0) {bs : List Bound} → P B.Bound.none �
 unfolding tightest
 tightest-either P p done = p
 tightest-either P p (both {x = b} {xs = bs} h hs) = tighter-either P b (tightest bs) h (tightest-either P p hs)
-
--- the tightest of f 0, .., f (t - 1)
-abbrev tightestOf : ℕ → (ℕ → Bound) → Bound
-tightestOf t f = tightest (tabulate t 0 f)
 
 tightestOf-each : (t : ℕ) (f : ℕ → Bound) {u : Bound} → LeB u (tightestOf t f) → (s : ℕ) → s < t → LeB u (f s)
 tightestOf-each t f h s l = rw zero-add at (at-tabulate t 0 f (tightest-each (tabulate t 0 f) h) s l)
@@ -74,16 +71,9 @@ module _ (m : ℕ) (d : Matrix) where
   abbrev pub Upto : ℕ → (ℕ → ℤ) → Type 0
   Upto t x = (i j : ℕ) → i < t → j < t → Holds (x i -ℤ x j) (D i j)
 
-  -- how late the time of t may be, given those below t, and how early, negated
-  abbrev pub latest : ℕ → (ℕ → ℤ) → Bound
-  latest t x = tightestOf t (λ s. plus (D t s) (most (x s)))
-
-  abbrev pub earliest : ℕ → (ℕ → ℤ) → Bound
-  earliest t x = tightestOf t (λ s. plus (D s t) (most (negℤ (x s))))
-
   -- v is a time for t
   abbrev pub Possible : ℕ → (ℕ → ℤ) → ℤ → Type 0
-  Possible t x v = Holds v (latest t x) × Holds (negℤ v) (earliest t x)
+  Possible t x v = Holds v (latest m d t x) × Holds (negℤ v) (earliest m d t x)
 
   module _ (cl : Closed m d) where
     module _ (t : ℕ) (x : ℕ → ℤ) (ht : t < m) (ok : Upto t x) where
@@ -97,14 +87,14 @@ module _ (m : ℕ) (d : Matrix) where
           (omega (ints, sub-ud (x s′) (x s), sub-ud (x s) (x s′), add-ud (x s′ -ℤ x s) (x s -ℤ x s′))))
 
       -- there is a time for t
-      room : LeB (most (pos 0)) (plus (latest t x) (earliest t x))
+      room : LeB (most (pos 0)) (plus (latest m d t x) (earliest m d t x))
       unfolding plus
       room =
-          tightestOf-either (λ u. LeB (most (pos 0)) (plus u (earliest t x))) t _ any (λ s h.
+          tightestOf-either (λ u. LeB (most (pos 0)) (plus u (earliest m d t x))) t _ any (λ s h.
           tightestOf-either (λ w. LeB (most (pos 0)) (plus (plus (D t s) (most (x s))) w)) t _ (rw plus-none any) (λ s′ h′. room-at s s′ h h′))
 
       pub next-time : (v : ℤ) × Possible t x v
-      next-time = let (v, hu, hw) = between (latest t x) (earliest t x) room in (v, (hu, hw))
+      next-time = let (v, hu, hw) = between (latest m d t x) (earliest m d t x) room in (v, (hu, hw))
 
       -- it is set: y is x below t, and has it at t
       pub upto-next : (y : ℕ → ℤ) → ((s : ℕ) → s < t → y s ≡ x s) → Possible t x (y t) → Upto (suc t) y

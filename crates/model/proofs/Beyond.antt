@@ -7,21 +7,20 @@ use mathlib.Core.Path.{_≡_, refl, sym, _∙_}
 use mathlib.Core.Logic.{_⊎_, inl, inr, ⊎-elim}
 use mathlib.Core.Bool.{Bool, true, false, _&&_, _||_}
 use mathlib.Core.List.{List, [], _∷_}
-use mathlib.Core.Option.{some}
 use lib.IntN.{ℤ, _+ℤ_, _-ℤ_}
 use lib.ListN.{length, length-map}
 use Rattle.ints.proofs.Integers.{ints, add-ud, sub-ud}
-use Rattle.model.specs.Lists.{tabulate, allOf}
+use Rattle.model.specs.Lists.{tabulate, allOf, Every, done, both}
 use Rattle.model.specs.Bound as B
 use Rattle.model.specs.Bound.{Bound, most, any, Holds}
 use Rattle.model.specs.Pattern.{pairBound, isNone, onlyDifferences, InPattern}
-use Rattle.model.specs.Network.{after, added, Network, clocked, cycles, Repeat, repeatOf}
-use Rattle.model.specs.Demands.{Met, NotBefore, Differences}
+use Rattle.model.specs.Network.{after, power, added, Network, clocked, cycles, Repeat}
+use Rattle.model.specs.Demands.{Met, NotBefore, Differences, LeastRepeat}
+use Rattle.model.specs.Conditions.{Regular}
 use Rattle.model.proofs.Same.{and-true}
-use Rattle.model.proofs.Listed.{Every, done, both, at-tabulate}
-use Rattle.model.proofs.Cycles.{Regular, shift, clocked-shift, length-cycles, cycles-shift}
-use Rattle.model.proofs.Powers.{power, repeats-from}
-use Rattle.model.proofs.Repeats.{repeat-sound}
+use Rattle.model.proofs.Listed.{at-tabulate}
+use Rattle.model.proofs.Cycles.{shift, clocked-shift, length-cycles, cycles-shift}
+use Rattle.model.proofs.Powers.{repeats-from}
 
 -- ---- a pattern that bounds only differences
 allOf-true : {X : Type 0} (p : X → Bool) (xs : List X) → allOf p xs ≡ true → Every (λ x. p x ≡ true) xs
@@ -116,8 +115,9 @@ module _ (w : Network) (reg : Regular (w .n) (w .times)) (p q : ℕ) (c : ℤ)
           rest (omega arith) (earlier (k - suc q) (rw j m))
 
 -- a target met at no cycle from 1 to q - 1 is met at no cycle
-pub beyond : (w : Network) → Regular (w .n) (w .times) → (r : Repeat) → repeatOf w ≡ some r → Differences w → NotBefore w (r .q)
+pub beyond : (w : Network) → Regular (w .n) (w .times) → (r : Repeat) → LeastRepeat w r → Differences w → NotBefore w (r .q)
     → (k : ℕ) → 1 ≤ k → Met w k → ⊥
-beyond w reg r e differences none k l m =
-    let s = repeat-sound w e in
-    beyond-from w reg (s .p′) (s .q′) (r .number) (s .again) (s .earlier) differences (rw (s .q-is) at none) (suc k) k (omega arith) l m
+beyond w reg r s differences none k l m =
+    let is = s .repeated in
+    let q-is : suc (r .q - 1) ≡ r .q = omega (arith, is .from-one, is .earlier) in
+    beyond-from w reg (r .p - 1) (r .q - 1) (r .number) (is .again) (omega (arith, is .from-one, is .earlier)) differences (rw q-is none) (suc k) k (omega arith) l m

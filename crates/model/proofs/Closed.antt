@@ -1,21 +1,16 @@
 -- Closed matrices: no entry is wider than a way round by a third row; all times have one, and a new constraint keeps it.
-use Prim.Native.Nat.{ℕ, _*_, _<_}
+use Prim.Native.Nat.{ℕ, _<_}
 use mathlib.Core.Path.{_≡_, refl, _∙_}
 use mathlib.Core.Bool.{Bool, true, false, cond}
 use mathlib.Core.Option.{Option, none, some}
 use lib.IntN.{ℤ, pos}
-use lib.ListN.{length}
 use lib.Dec.{eqb, eqb→eq, eqb-refl, T}
 use Rattle.model.specs.Bound as B
 use Rattle.model.specs.Bound.{Bound, most, LeB, any, plus, tighter, negative}
 use Rattle.model.proofs.Bounds.{leB-refl, leB-trans, plus-mono, plus-assoc, plus-comm, plus-zero, tighter-either, tighter-of-le, tighter-left, tighter-right, negative-false, negative-true}
 use Rattle.model.specs.Matrix.{Matrix, entry, matrix, diagonal, everything, relaxed, within}
+use Rattle.model.specs.Conditions.{Closed}
 use Rattle.model.proofs.Entries.{length-matrix, entry-matrix}
-
-pub record Closed (m : ℕ) (d : Matrix) : Type 0 where
-  pub size : length d ≡ m * m
-  pub diag : (i : ℕ) → i < m → entry m d i i ≡ most (pos 0)
-  pub triangle : (i j k : ℕ) → i < m → j < m → k < m → LeB (entry m d i j) (plus (entry m d i k) (entry m d k j))
 
 -- a matrix is closed if the function that makes it is
 pub matrix-closed : (m : ℕ) (f : ℕ → ℕ → Bound) → ((i : ℕ) → i < m → f i i ≡ most (pos 0))

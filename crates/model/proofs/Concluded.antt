@@ -1,26 +1,28 @@
 -- What each outcome of a search means: the demands for a network.
 use Prim.Native.Nat.{ℕ, suc, _≤_, _<_}
 use native.Mathlib.Omega.{arith}
+use native.Mathlib.Decide.{decLt}
 use mathlib.Core.Path.{_≡_, refl, ap}
-use mathlib.Core.Logic.{inl, inr, ⊎-elim}
+use mathlib.Core.Logic.{⊎-elim}
 use mathlib.Core.Bool.{true, false}
 use mathlib.Core.Option.{Option, none, some}
 use lib.ListN.{length}
 use Rattle.model.specs.Matrix.{Matrix}
 use Rattle.model.specs.Network.{Network}
 use Rattle.model.specs.Search.{lists, firstCommon, someLarge, Outcome, reached, clear, never, tableFull, boundTooLarge, pick, Plan, plan, outcome}
-use Rattle.model.specs.Demands.{Met, NotBefore, First, EndsEarly, NeverHolds}
-use Rattle.model.proofs.Cycles.{Regular}
+use Rattle.model.specs.Demands.{Met, NotBefore, First, EndsEarly, EndsAt, NeverHolds}
+use Rattle.model.specs.Conditions.{Regular}
+use Rattle.model.proofs.Repeats.{repeat-is}
 use Rattle.model.proofs.Searched.{met-by, unmet, Settled, full, large, met, unsettled, settled-is, settledAt, Ending, stopped, passed, outcome-ends, Short, Planned, whole, short, plan-is}
 
 pub data Concluded (w : Network) (capacity : ℕ) : Outcome → Type 0 where
-  reached-at : {d : Matrix} {k : ℕ} → First w k → firstCommon (w .n) (w .start) (lists w k) ≡ some d → Concluded w capacity (reached k (pick (w .n) d))
-  table-full : {k : ℕ} → EndsEarly w capacity → Concluded w capacity (tableFull k)
-  bound-too-large : {k : ℕ} → k ≤ w .horizon → someLarge (lists w k) ≡ true → EndsEarly w capacity → Concluded w capacity (boundTooLarge k)
-  clear-at : (Short w → ⊥) → NotBefore w (suc (w .horizon)) → Concluded w capacity (clear (w .horizon))
+  reached-at : {d : Matrix} {k : ℕ} → First w k → firstCommon (w .n) (w .start) (lists w k) ≡ some d → (EndsEarly w capacity → ⊥) → Concluded w capacity (reached k (pick (w .n) d))
+  table-full : {k : ℕ} → EndsAt w capacity k → capacity < length (lists w k) → Concluded w capacity (tableFull k)
+  bound-too-large : {k : ℕ} → k ≤ w .horizon → EndsAt w capacity k → length (lists w k) ≤ capacity → someLarge (lists w k) ≡ true → Concluded w capacity (boundTooLarge k)
+  clear-at : (Short w → ⊥) → NotBefore w (suc (w .horizon)) → (EndsEarly w capacity → ⊥) → Concluded w capacity (clear (w .horizon))
   never-at : NeverHolds w capacity → Concluded w capacity never
 
-module _ (w : Network) (capacity : ℕ) (reg : Regular (w .n) (w .times)) where
+module _ (w : Network) (capacity : ℕ) (reg : Regular (w .n) (w .times)) (some-row : 1 ≤ w .n) where
   -- a cycle that settles nothing
   open-at : (k : ℕ) {o : Option Outcome} → Settled w capacity k (lists w k) o → o ≡ none
       → (length (lists w k) ≤ capacity) × (someLarge (lists w k) ≡ false) × (Met w k → ⊥)
@@ -32,17 +34,29 @@ module _ (w : Network) (capacity : ℕ) (reg : Regular (w .n) (w .times)) where
   not-before : (j : ℕ) → ((i : ℕ) → 1 ≤ i → i < j → settledAt w capacity i ≡ none) → NotBefore w j
   not-before j before i l u = open-at i (settled-is w capacity i (lists w i)) (before i l u) .2
 
+  -- where no list up to cycle j is too much, and the target is met there, the search does not end early
+  met-first : (j : ℕ) → 1 ≤ j → Met w j → EndsAt w capacity j → length (lists w j) ≤ capacity → someLarge (lists w j) ≡ false → EndsEarly w capacity → ⊥
+  met-first j l m ends f g early = go (decLt (early .at) j) (decLt j (early .at))
+    where
+      fits : (i : ℕ) → early .at ≡ i → length (lists w i) ≤ capacity → someLarge (lists w i) ≡ false → ⊥
+      fits i e h k = ⊎-elim (λ t. let u = rw e at t in omega arith) (λ t. let u = rw e at t in let z : _≡_ {A = ℕ} 0 1 = cc in omega arith) (early .too-much)
+
+      go : Dec (early .at < j) → Dec (j < early .at) → ⊥
+      go (yes h) d = let (a, b) = ends .fit-before (early .at) (early .from-one) h in fits (early .at) refl a b
+      go (no h) (yes k) = early .unmet j l k m
+      go (no h) (no k) = fits j (omega arith) f g
+
   -- a cycle that settles the search
-  settles : (j : ℕ) → 1 ≤ j → j ≤ plan w .cycles → plan w .cycles ≤ w .horizon → NotBefore w j
+  settles : (j : ℕ) → 1 ≤ j → plan w .cycles ≤ w .horizon → EndsAt w capacity j
       → {o : Option Outcome} → Settled w capacity j (lists w j) o → (p : Outcome) → o ≡ some p → Concluded w capacity p
-  settles j l u h before (full f) p e = let q : tableFull j ≡ p = cc in
-      rw (← q) (table-full (record { at = j; from-one = l; searched = u; too-much = inl f; unmet = before }))
-  settles j l u h before (large f g) p e = let q : boundTooLarge j ≡ p = cc in
-      rw (← q) (bound-too-large {k = j} (omega arith) g (record { at = j; from-one = l; searched = u; too-much = inr g; unmet = before }))
-  settles j l u h before (met {c} f g k) p e =
+  settles j l h ends (full f) p e = let q : tableFull j ≡ p = cc in rw (← q) (table-full ends f)
+  settles j l h ends (large f g) p e = let q : boundTooLarge j ≡ p = cc in let u = ends .searched in rw (← q) (bound-too-large {k = j} (omega arith) ends f g)
+  settles j l h ends (met {c} f g k) p e =
       let q : reached j (pick (w .n) c) ≡ p = cc in
-      rw (← q) (reached-at (record { from-one = l; to-horizon = omega arith; not-before = before; met = (pick (w .n) c, met-by w reg j k) }) k)
-  settles j l u h before (unsettled f g k) p e = let z : _≡_ {A = ℕ} 0 1 = cc in absurd (omega arith)
+      let u = ends .searched in
+      let m : Met w j = (pick (w .n) c, met-by w reg j k) in
+      rw (← q) (reached-at (record { from-one = l; to-horizon = omega arith; not-before = ends .unmet; met = m }) k (met-first j l m ends f g))
+  settles j l h ends (unsettled f g k) p e = let z : _≡_ {A = ℕ} 0 1 = cc in absurd (omega arith)
 
   -- past all cycles
   never-early : ((i : ℕ) → 1 ≤ i → i ≤ plan w .cycles → settledAt w capacity i ≡ none) → EndsEarly w capacity → ⊥
@@ -52,10 +66,10 @@ module _ (w : Network) (capacity : ℕ) (reg : Regular (w .n) (w .times)) where
 
   past : {p : Plan} → Planned w p → plan w ≡ p → ((i : ℕ) → 1 ≤ i → i ≤ plan w .cycles → settledAt w capacity i ≡ none) → Concluded w capacity (p .end)
   past (whole no-short) e all =
-      clear-at no-short (not-before (suc (w .horizon)) (λ i l u. all i l (omega (arith, ap (λ (p : Plan). p .cycles) e))))
+      clear-at no-short (not-before (suc (w .horizon)) (λ i l u. all i l (omega (arith, ap (λ (p : Plan). p .cycles) e)))) (never-early all)
   past (short s) e all = never-at (record {
     again = s .again;
-    first = s .first;
+    first = repeat-is w reg some-row (s .first);
     proviso = s .proviso;
     long-enough = s .long-enough;
     unmet = not-before (s .again .q) (λ i l u. all i l (omega (arith, ap (λ (p : Plan). p .cycles) e)));
@@ -68,7 +82,12 @@ module _ (w : Network) (capacity : ℕ) (reg : Regular (w .n) (w .times)) where
 
   concluded : {o : Outcome} → Ending w capacity (plan w .cycles) (plan w .end) o → Concluded w capacity o
   concluded (stopped {o} j l u before e) =
-      settles j l u (to-horizon (plan-is w)) (not-before j before) (settled-is w capacity j (lists w j)) o e
+      settles j l (to-horizon (plan-is w)) (record {
+        from-one = l;
+        searched = u;
+        unmet = not-before j before;
+        fit-before = λ i li ui. let (h, g, _) = open-at i (settled-is w capacity i (lists w i)) (before i li ui) in (h, g);
+      }) (settled-is w capacity j (lists w j)) o e
   concluded (passed all) = past (plan-is w) refl all
 
   pub conclusion : Concluded w capacity (outcome w capacity)

@@ -10,20 +10,10 @@ use lib.ListN.{length}
 use Rattle.ints.proofs.Integers.{ints, add-ud}
 use Rattle.model.specs.Lists.{tabulate}
 use Rattle.model.specs.Network.{Time, secs, time, after, secsOf, clocked, next, cycle, cycles}
+use Rattle.model.specs.Conditions.{Regular}
 use Rattle.model.proofs.Entries.{length-tabulate, getD-tabulate}
 use Rattle.model.proofs.Tabulated.{tabulate-ext, map-tabulate}
 use Rattle.model.proofs.MaxPlus.{leT-secs, after-assoc, latestOf-upper, latestOf-cong, after-latestOf, latestSum}
-
--- column j of row i holds a time
-pub record Column (n : ℕ) (a : List Time) (i j : ℕ) : Type 0 where
-  pub from-one : 1 ≤ j
-  pub to-n : j ≤ n
-  pub value : ℤ
-  pub is : time n a i j ≡ secs value
-
--- each row holds a time
-abbrev pub Regular : ℕ → List Time → Type 0
-Regular n a = (i : ℕ) → 1 ≤ i → i ≤ n → (j : ℕ) × Column n a i j
 
 -- c added to every time
 unfoldable pub shift : ℤ → List ℤ → List ℤ

@@ -6,10 +6,10 @@ use mathlib.Core.Path.{_≡_, refl, ap, sym, _∙_}
 use mathlib.Core.List.{List, _++_, flatten}
 use lib.ListN.{length, getD, length-append, List·getD-append}
 use lib.Seq.{ext-getD, getD-append-add}
-use Rattle.model.specs.Lists.{tabulate}
+use Rattle.model.specs.Lists.{tabulate, Every}
 use Rattle.model.specs.Bound as B
 use Rattle.model.specs.Bound.{Bound}
-use Rattle.model.proofs.Listed.{Every, every-getD}
+use Rattle.model.proofs.Listed.{every-getD}
 use Rattle.model.specs.Matrix.{Matrix, entry, matrix}
 
 module _ {ℓ} {X : Type ℓ} where

@@ -12,19 +12,18 @@ use lib.ListN.{length, getD, length-append, List·getD-append}
 use lib.Seq.{getD-at}
 use Rattle.ints.proofs.Integers.{up, dn, ints, add-ud, sub-ud}
 use Rattle.model.specs.Bound.{Bound, most, Holds, plus}
-use Rattle.model.specs.Matrix.{Matrix, constrain}
+use Rattle.model.specs.Matrix.{Matrix, constrain, Member}
 use Rattle.model.specs.Network.{Time, blank, secs, time, after, secsOf}
 use Rattle.model.specs.Search.{chosen, slack, keeps, rowConstraints, rowsConstraints}
+use Rattle.model.specs.Lists.{Every, done}
+use Rattle.model.specs.Conditions.{Closed, Fits, Column, Chosen, Cols, image, sum, Before}
 use Rattle.model.proofs.Bounds.{bounds}
 use Rattle.model.proofs.MaxPlus.{LeT, low, nat-leT}
-use Rattle.model.proofs.Listed.{Every, done, every-append, every-split}
-use Rattle.model.proofs.Closed.{Closed}
-use Rattle.model.proofs.Members.{Member}
-use Rattle.model.proofs.Zones.{Fits, Keeps, In, closed, all-closed, all-in, same-zones}
+use Rattle.model.proofs.Listed.{every-append, every-split}
+use Rattle.model.proofs.Zones.{Keeps, In, closed, all-closed, all-in, same-zones}
 use Rattle.model.proofs.Rows.{Row, row-of, of-row}
-use Rattle.model.proofs.Cycles.{Column}
-use Rattle.model.proofs.Selections.{Selection, none, next, Chosen, Cols, chosen-at}
-use Rattle.model.proofs.Preimage.{image, Attains, image-attained, moved, row-fits}
+use Rattle.model.proofs.Selections.{Selection, none, next, chosen-at}
+use Rattle.model.proofs.Preimage.{Attains, image-attained, moved, row-fits}
 
 -- two lists of columns, and one column more
 long-more : {i : ℕ} (cols : List ℕ) (s : ℕ) → length cols ≡ i → length (cols ++ (s ∷ [])) ≡ suc i
@@ -44,27 +43,10 @@ unfolding slack after
 slack-room u w c blank h = low
 slack-room u w c (secs t) h = nat-leT (omega (bounds, sub-ud u w, sub-ud c t, add-ud u t, add-ud w c))
 
-module _ (n : ℕ) (a : List Time) where
-  -- x(s) with what column s adds in row l
-  abbrev pub sum : (ℕ → ℤ) → ℕ → ℕ → ℤ
-  sum x l s = x s +ℤ chosen n a l s
-
-  -- at all times of p these columns attain the images in the rows before i
-  abbrev pub Imaged : Matrix → List ℕ → ℕ → Type 0
-  Imaged p cols i = (x : ℕ → ℤ) → Member (suc n) p x → (l : ℕ) → l < i → sum x l (getD cols l 0) ≡ image n a x l
-
-  -- the clock's does so at any
-  pub clock-imaged : (x : ℕ → ℤ) → sum x 0 0 ≡ image n a x 0
-  unfolding image chosen up dn
-  clock-imaged x = omega (ints, add-ud (x 0) (pos 0))
-
--- a set, with columns of rows 0 to i - 1 that attain the images
-pub record Before (n : ℕ) (a : List Time) (p : Matrix) (cols : List ℕ) (i : ℕ) : Type 0 where
-  pub closed-set : Closed (suc n) p
-  pub from-one : 1 ≤ i
-  pub long : length cols ≡ i
-  pub columns : Cols n a cols i
-  pub imaged : Imaged n a p cols i
+-- the clock's column attains its image at any times
+pub clock-imaged : (n : ℕ) (a : List Time) (x : ℕ → ℤ) → sum n a x 0 0 ≡ image n a x 0
+unfolding image chosen up dn
+clock-imaged n a x = omega (ints, add-ud (x 0) (pos 0))
 
 module _ (n : ℕ) (a : List Time) (d : Matrix) where
   module _ (x : ℕ → ℤ) where

@@ -6,10 +6,10 @@ use mathlib.Core.Logic.{_⊎_, inl, inr, ⊎-elim}
 use mathlib.Core.Bool.{Bool, true, false, cond, _||_}
 use mathlib.Core.List.{List, [], _∷_, _++_, foldl}
 use mathlib.Core.Option.{Option, none, some}
-use Rattle.model.specs.Lists.{anyOf}
+use Rattle.model.specs.Lists.{anyOf, Every, done, both, Some, here, there}
 use Rattle.model.specs.Matrix.{Matrix, sameMatrix}
 use Rattle.model.specs.Search.{keep}
-use Rattle.model.proofs.Listed.{Every, done, both, every-append, every-map, Some, here, there, some-map, some-left, some-right, some-split}
+use Rattle.model.proofs.Listed.{every-append, every-map, some-map, some-left, some-right, some-split}
 use Rattle.model.proofs.Same.{sameMatrix-true, sameMatrix-refl}
 use Rattle.model.proofs.Zones.{Is}
 

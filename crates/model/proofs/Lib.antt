@@ -22,6 +22,7 @@ pub mod Prefix
 pub mod Repeats
 pub mod Patterns
 pub mod ZoneLists
+pub mod ZoneSets
 pub mod Start
 pub mod Gap
 pub mod Size
@@ -32,4 +33,5 @@ pub mod Concluded
 pub mod Limits
 pub mod Parsed
 pub mod DemandsHold
+pub mod Determined
 pub mod Runs

@@ -18,14 +18,14 @@ use Rattle.ints.specs.declared.Seconds.{Seconds}
 use Rattle.model.specs.declared.Slot.{Slot}
 use Rattle.model.specs.declared.Case.{Case}
 use Rattle.model.specs.declared.Fault.{Fault}
-use Rattle.model.specs.Lists.{anyOf, when, orElse}
+use Rattle.model.specs.Lists.{anyOf, when, orElse, Every, done, both}
 use Rattle.model.specs.Bound as B
 use Rattle.model.specs.Bound.{Bound, most}
 use Rattle.model.specs.Pattern.{pairPlace, pairBound}
 use Rattle.model.specs.Network.{Time, blank, secs, Network, time, isTime, regular}
 use Rattle.model.specs.Faults.{timeOf, boundOf, nothing, present, network, beyond, entryFault, rowsFault, outside, tableFault, patternsFault, roomFault, callFault, runFault}
-use Rattle.model.proofs.Listed.{Every, done, both, every-append, every-map, of-both, at-getD, map-every, of-map-every}
-use Rattle.model.proofs.Cycles.{Regular}
+use Rattle.model.specs.Conditions.{Regular, InLimit, TableLimits}
+use Rattle.model.proofs.Listed.{every-append, every-map, of-both, at-getD, map-every, of-map-every}
 
 -- ---- no fault. Each law holds both ways
 module _ {X : Type 0} where
@@ -51,10 +51,6 @@ not-is-false t = (not-false t, ap not)
 -- no number is below one that is at most as large
 pub ltb-is-false : (a b : ℕ) → (ltb a b ≡ false) ↔ (b ≤ a)
 ltb-is-false a b = (ltb-false a b, le-ltb a b)
-
--- it is absent, or at most limit in size
-abbrev pub InLimit : ℕ → Slot → Type 0
-InLimit limit e = beyond limit e ≡ false
 
 -- every entry is in the limit
 pub entryFault-none : (limit : ℕ) (f : ℕ → Fault) (p : ℕ) (es : List Slot) → (entryFault limit f p es ≡ none) ↔ Every (InLimit limit) es
@@ -156,14 +152,6 @@ rows-regular {n} {es} r i l u =
     let same : suc j - 1 ≡ j = omega arith in
     let is = getD-times (n * n) es (k * n + j) (digits-lt in-rows in-row) ∙ ap timeOf (sym (getD-drop (k * n) es j nothing)) ∙ sym (getD-times n at j in-row) ∙ e in
     (suc j, record { from-one = omega arith; to-n = omega arith; value = v; is = rw same is })
-
--- ---- the limits
--- of a table
-pub record TableLimits (n : ℕ) (times : List Time) : Type 0 where
-  pub some-departures : 1 ≤ n
-  pub few-departures : n ≤ 7
-  pub regular : Regular n times
-  pub times-small : (i j : ℕ) (v : ℤ) → time n times i j ≡ secs v → natAbs v ≤ 86400
 
 -- of a call's network
 pub record Limits (w : Network) : Type 0 where

@@ -5,11 +5,7 @@ use mathlib.Core.Path.{_≡_, refl}
 use mathlib.Core.Logic.{_⊎_, inl, inr, ⊎-elim}
 use mathlib.Core.List.{List, [], _∷_, _++_, map, flatten, flatMap}
 use lib.ListN.{length, getD}
-use Rattle.model.specs.Lists.{tabulate}
-
-pub data Every {X : Type 0} (P : X → Type 0) : List X → Type 0 where
-  done : Every P []
-  both : {x : X} {xs : List X} → P x → Every P xs → Every P (x ∷ xs)
+use Rattle.model.specs.Lists.{tabulate, Every, done, both, Some, here, there}
 
 module _ {X : Type 0} {P : X → Type 0} where
   pub every-append : {xs ys : List X} → Every P xs → Every P ys → Every P (xs ++ ys)
@@ -87,10 +83,6 @@ module _ {X Y : Type 0} {P : Y → Type 0} where
   flatMap-every f (both h p) = every-append h (flatMap-every f p)
 
 -- ---- a property of some element
-
-pub data Some {X : Type 0} (P : X → Type 0) : List X → Type 0 where
-  here : {x : X} {xs : List X} → P x → Some P (x ∷ xs)
-  there : {x : X} {xs : List X} → Some P xs → Some P (x ∷ xs)
 
 module _ {X : Type 0} where
   pub some-map : {P Q : X → Type 0} → ((x : X) → P x → Q x) → {xs : List X} → Some P xs → Some Q xs

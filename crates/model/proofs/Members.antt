@@ -9,12 +9,10 @@ use Rattle.ints.proofs.Integers.{up, dn, ints, add-ud, sub-ud}
 use Rattle.model.specs.Bound as B
 use Rattle.model.specs.Bound.{Bound, most, LeB, any, Holds, plus, tighter}
 use Rattle.model.proofs.Bounds.{holds-none, holds-sum, leB-trans, plus-comm, plus-zero, tighter-either, tighter-left, tighter-right}
-use Rattle.model.specs.Matrix.{Matrix, entry, relaxed, everything, diagonal}
+use Rattle.model.specs.Matrix.{Matrix, entry, relaxed, everything, diagonal, Member}
+use Rattle.model.specs.Conditions.{Closed}
 use Rattle.model.proofs.Entries.{entry-matrix}
-use Rattle.model.proofs.Closed.{Closed, Within, free, ruled-out, kept}
-
-abbrev pub Member : ℕ → Matrix → (ℕ → ℤ) → Type 0
-Member m d x = (i j : ℕ) → i < m → j < m → Holds (x i -ℤ x j) (entry m d i j)
+use Rattle.model.proofs.Closed.{Within, free, ruled-out, kept}
 
 -- x(i) - x(j) by way of x(k)
 pub holds-by : (x : ℕ → ℤ) (i j k : ℕ) {b c : Bound} → Holds (x i -ℤ x k) b → Holds (x k -ℤ x j) c → Holds (x i -ℤ x j) (plus b c)

@@ -18,8 +18,10 @@ use Rattle.model.specs.declared.Fault.the-variants as fault
 use Rattle.model.specs.Network.{regular}
 use Rattle.model.specs.Faults.{timeOf, present, beyond, patternSize, outside, tableFault, patternsFault, roomFault, callFault}
 use Rattle.model.specs.Packed.{Reading, got, refused, andThen, bitAt, numAt, bits, signed, entry, entries, rows, bounds, fill, body, parse}
-use Rattle.model.proofs.Listed.{Every, done, both, every-append}
-use Rattle.model.proofs.Limits.{InLimit, RowsInLimit, no-row, row, no-fault}
+use Rattle.model.specs.Lists.{Every, done, both}
+use Rattle.model.specs.Conditions.{InLimit}
+use Rattle.model.proofs.Listed.{every-append}
+use Rattle.model.proofs.Limits.{RowsInLimit, no-row, row, no-fault}
 
 -- ---- what holds of a reading's value and the place after it
 pub data Gives {A : Type 0} (P : A → ℕ → Type 0) : Reading A → Type 0 where

@@ -9,13 +9,13 @@ use mathlib.Core.List.{List}
 use mathlib.Core.Option.{none, some}
 use lib.IntN.{ℤ}
 use Rattle.model.specs.Bound.{Bound}
-use Rattle.model.specs.Matrix.{Matrix, tighten}
+use Rattle.model.specs.Matrix.{Matrix, tighten, Member}
 use Rattle.model.specs.Pattern.{patternConstraints, InPattern}
 use Rattle.model.specs.Search.{common}
-use Rattle.model.proofs.Listed.{Every, every-tabulate, at-tabulate, every-flatten, in-flatten}
-use Rattle.model.proofs.Closed.{Closed}
-use Rattle.model.proofs.Members.{Member}
-use Rattle.model.proofs.Zones.{ClosedZone, closed, In, Fits, Keeps, all-closed, all-in, tighten-closed, tighten-in}
+use Rattle.model.specs.Lists.{Every}
+use Rattle.model.specs.Conditions.{Closed, Fits}
+use Rattle.model.proofs.Listed.{every-tabulate, at-tabulate, every-flatten, in-flatten}
+use Rattle.model.proofs.Zones.{ClosedZone, closed, In, Keeps, all-closed, all-in, tighten-closed, tighten-in}
 
 -- a zone that is there has a closed matrix
 pub closed-some : {m : ℕ} {d : Matrix} → ClosedZone m (some d) → Closed m d

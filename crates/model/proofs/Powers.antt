@@ -7,16 +7,12 @@ use mathlib.Core.List.{List, _∷_, flatten}
 use lib.IntN.{ℤ}
 use lib.ListN.{length, getD, List·getD-map}
 use Rattle.model.specs.Lists.{tabulate}
-use Rattle.model.specs.Network.{Time, blank, secs, time, after, clocked, next, cycle, cycles, product, powersFrom, added}
+use Rattle.model.specs.Network.{Time, blank, secs, time, after, clocked, next, cycle, cycles, product, powersFrom, power, added}
+use Rattle.model.specs.Conditions.{Regular}
 use Rattle.model.proofs.Entries.{getD-tabulate, rows, length-rows, getD-rows}
 use Rattle.model.proofs.Tabulated.{tabulate-suc}
 use Rattle.model.proofs.MaxPlus.{leT-secs, after-left-comm, latestOf-upper, latestOf-cong, after-latestOf, latestSum, latestSum-assoc}
-use Rattle.model.proofs.Cycles.{Regular, shift, length-cycle, cycles-add, clocked-cycle, cycle-is, shifted, cycles-shift}
-
--- power r + 1
-unfoldable pub power : ℕ → List Time → ℕ → List Time
-power n a zero = a
-power n a (suc r) = product n a (power n a r)
+use Rattle.model.proofs.Cycles.{shift, length-cycle, cycles-add, clocked-cycle, cycle-is, shifted, cycles-shift}
 
 -- `powersFrom` lists k powers, from power r + 1 on
 pub powersFrom-is : (n : ℕ) (a : List Time) (k r : ℕ) → powersFrom k n a (power n a r) ≡ tabulate k r (power n a)

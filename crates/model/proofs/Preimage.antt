@@ -9,25 +9,17 @@ use mathlib.Core.List.{List, [], _∷_}
 use lib.IntN.{ℤ, pos, _+ℤ_, _-ℤ_}
 use lib.ListN.{getD}
 use Rattle.ints.proofs.Integers.{up, dn, ints, add-ud, sub-ud}
-use Rattle.model.specs.Bound as B
 use Rattle.model.specs.Bound.{Bound, most, any, Holds, plus}
-use Rattle.model.specs.Matrix.{Matrix, entry, Constraint}
+use Rattle.model.specs.Matrix.{Matrix, entry, Constraint, Member}
 use Rattle.model.specs.Network.{Time, blank, secs, time, after, secsOf, next}
 use Rattle.model.specs.Search.{chosen, slack, keeps, rowsConstraints, preimage}
+use Rattle.model.specs.Lists.{Every}
+use Rattle.model.specs.Conditions.{Closed, Fits, Column, Chosen, Cols, image}
 use Rattle.model.proofs.Bounds.{bounds, nat-leB, leB-refl, holds-none, holds-sum, under, plus-comm}
 use Rattle.model.proofs.MaxPlus.{LeT, low, leT-antisym, leT-nat, nat-leT, latestOf-upper, latestOf-least}
-use Rattle.model.proofs.Listed.{Every}
-use Rattle.model.proofs.Closed.{Closed}
-use Rattle.model.proofs.Members.{Member}
-use Rattle.model.proofs.Zones.{In, ClosedZone, Fits, Keeps, tighten-closed, tighten-in}
+use Rattle.model.proofs.Zones.{In, ClosedZone, Keeps, tighten-closed, tighten-in}
 use Rattle.model.proofs.Rows.{Row, behind, rows-of, of-rows}
-use Rattle.model.proofs.Cycles.{Column}
-use Rattle.model.proofs.Selections.{Selection, Chosen, Cols, chosen-column, chosen-fits, selection-length, selection-cols}
-
--- the image of x: the clock's time, then the times of the next cycle
-unfoldable pub image : ℕ → List Time → (ℕ → ℤ) → ℕ → ℤ
-image n a x zero = x zero
-image n a x (suc i) = next n a x (suc i)
+use Rattle.model.proofs.Selections.{Selection, chosen-column, chosen-fits, selection-length, selection-cols}
 
 -- in row i column s attains the largest sum, ties included
 abbrev pub Attains : ℕ → List Time → (ℕ → ℤ) → ℕ → ℕ → Type 0
@@ -51,7 +43,7 @@ slack-room u w c (secs t) = (
 
 module _ (n : ℕ) (a : List Time) (x : ℕ → ℤ) where
   -- what a column holding a time adds up to
-  column-sum : {i s : ℕ} → Column n a (suc i) s → after (secs (x s)) (time n a (suc i) s) ≡ secs (x s +ℤ chosen n a (suc i) s)
+  pub column-sum : {i s : ℕ} → Column n a (suc i) s → after (secs (x s)) (time n a (suc i) s) ≡ secs (x s +ℤ chosen n a (suc i) s)
   unfolding chosen secsOf after
   column-sum c = rw (c .is)
 

@@ -1,10 +1,10 @@
 -- What `repeatOf` finds: the first power that is an earlier one with a number added, or that there is none among the first sixty-four.
 -- For two powers the search tries one number, their gap. If the table is regular, no other number can be what is added.
-use Prim.Native.Nat.{ℕ, zero, suc, _+_, _≤_, _<_}
+use Prim.Native.Nat.{ℕ, zero, suc, _+_, _-_, _≤_, _<_}
 use native.Mathlib.Omega.{arith}
 use native.Mathlib.Nat.{zero-add}
-use native.Mathlib.Decide.{ℕ-discrete}
-use mathlib.Core.Path.{_≡_, refl, sym}
+use native.Mathlib.Decide.{ℕ-discrete, decLt}
+use mathlib.Core.Path.{_≡_, refl, sym, ap, _∙_}
 use mathlib.Core.List.{List, [], _∷_, _++_}
 use mathlib.Core.Option.{Option, none, some}
 use mathlib.Core.Bool.{Bool, true, false, cond}
@@ -12,11 +12,12 @@ use lib.IntN.{ℤ, _+ℤ_}
 use lib.ListN.{getD}
 use Rattle.ints.proofs.Integers.{ints, add-ud, sub-ud}
 use Rattle.model.specs.Lists.{tabulate, sameLists}
-use Rattle.model.specs.Network.{Time, blank, secs, Network, time, after, added, gap, sameTime, Repeat, repeats, firstRepeat, repeatOf}
+use Rattle.model.specs.Network.{Time, blank, secs, Network, time, after, power, added, gap, sameTime, Repeat, repeats, firstRepeat, repeatOf}
+use Rattle.model.specs.Demands.{LeastRepeat}
+use Rattle.model.specs.Conditions.{Regular}
 use Rattle.model.proofs.Same.{sameLists-true, sameLists-refl, sameTime-true, sameTime-refl}
 use Rattle.model.proofs.Tabulated.{tabulate-snoc}
-use Rattle.model.proofs.Cycles.{Regular}
-use Rattle.model.proofs.Powers.{power, power-regular, powersFrom-is}
+use Rattle.model.proofs.Powers.{power-regular, powersFrom-is}
 
 -- the gap from a table that holds a time to the table with c added is c
 gap-added : (c : ℤ) (a : List Time) (i : ℕ) {v : ℤ} → getD a i blank ≡ secs v → gap a (added c a) ≡ c
@@ -133,3 +134,34 @@ module _ (w : Network) where
     -- where nothing is found, none of the first sixty-four repeats one
     pub repeat-none : repeatOf w ≡ none → NoRepeat 65
     repeat-none e = no-repeat 64 (rw e at repeatOf-is)
+
+    -- what is found is the first repeated power as document 01 says
+    pub repeat-is : {r : Repeat} → repeatOf w ≡ some r → LeastRepeat w r
+    repeat-is {r} e =
+        let h = repeat-sound e in
+        let q-is : r .q - 1 ≡ h .q′ = omega (arith, h .q-is) in
+        let p-is : h .p′ ≡ r .p - 1 = omega (arith, h .p-is) in
+        record {
+          among = omega (arith, h .q-is, h .among);
+          repeated = record {
+            from-one = omega (arith, h .p-is);
+            earlier = omega (arith, h .p-is, h .q-is, h .earlier);
+            again = ap powers q-is ∙ h .again ∙ ap (λ (i : ℕ). added (r .number) (powers i)) p-is;
+          };
+          first = λ q p c l s. repeat-first e (p - 1) (q - 1) (omega (arith, s .from-one, s .earlier)) (omega (arith, s .from-one, s .earlier)) c (s .again);
+        }
+
+    -- and where there is one, it is found, as the same power
+    pub repeat-found : {r : Repeat} → LeastRepeat w r → (s : Repeat) × (repeatOf w ≡ some s) × (s .q ≡ r .q)
+    repeat-found {r} least = go (repeatOf w) refl
+      where
+        same : (s : Repeat) → LeastRepeat w s → Dec (s .q < r .q) → Dec (r .q < s .q) → s .q ≡ r .q
+        same s other (yes h) d = absurd (least .first (s .q) (s .p) (s .number) h (other .repeated))
+        same s other (no h) (yes l) = absurd (other .first (r .q) (r .p) (r .number) l (least .repeated))
+        same s other (no h) (no l) = omega arith
+
+        go : (o : Option Repeat) → repeatOf w ≡ o → (s : Repeat) × (repeatOf w ≡ some s) × (s .q ≡ r .q)
+        go none e =
+            let is = least .repeated in
+            absurd (repeat-none e (r .p - 1) (r .q - 1) (omega (arith, is .from-one, is .earlier)) (omega (arith, is .from-one, is .earlier, least .among)) (r .number) (is .again))
+        go (some s) e = (s, e, same s (repeat-is e) (decLt (s .q) (r .q)) (decLt (r .q) (s .q)))

@@ -5,11 +5,11 @@ use native.Mathlib.Nat.{zero-add}
 use mathlib.Core.Path.{_≡_, sym}
 use mathlib.Core.List.{List, [], _∷_, _++_, append-assoc, flatten}
 use lib.ListN.{length, getD, length-append, List·getD-append}
-use Rattle.model.specs.Lists.{tabulate}
+use Rattle.model.specs.Lists.{tabulate, Every, done, both}
 use Rattle.model.specs.Matrix.{Matrix, Constraint}
 use Rattle.model.specs.Network.{Time, time}
 use Rattle.model.specs.Search.{chosen, slack, attains, keeps, rowConstraints, rowsConstraints}
-use Rattle.model.proofs.Listed.{Every, done, both, every-append, every-split, every-tabulate, at-tabulate, every-flatten, in-flatten}
+use Rattle.model.proofs.Listed.{every-append, every-split, every-tabulate, at-tabulate, every-flatten, in-flatten}
 
 -- column j of row i, against the column s
 abbrev pub behind : ℕ → List Time → ℕ → ℕ → ℕ → Constraint

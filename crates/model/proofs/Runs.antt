@@ -16,11 +16,12 @@ use Rattle.model.specs.Search.{lists, common, firstCommon, Outcome}
 use Rattle.model.specs.Faults.{network}
 use Rattle.model.specs.Answers.{seconds, cycleNumber, sevenTimes, answered, answer, run}
 use Rattle.model.specs.Demands.{InLimits}
+use Rattle.model.specs.Conditions.{Made}
 use Rattle.model.proofs.Listed.{every-map, map-every, some-at, every-some}
 use Rattle.model.proofs.Patterns.{pattern-fits}
 use Rattle.model.proofs.Start.{pick-small}
 use Rattle.model.proofs.Searched.{first-some}
-use Rattle.model.proofs.Sizes.{Made, made-small, pattern-small, made-lists, made-all, zone-limit}
+use Rattle.model.proofs.Sizes.{made-small, pattern-small, made-lists, made-all, zone-limit}
 use Rattle.model.proofs.Concluded as concluded
 use Rattle.model.proofs.Concluded.{Concluded, reached-at, clear-at, never-at, conclusion}
 use Rattle.model.proofs.Limits.{Limits, StartsSmall, limits-of, run-without}
@@ -39,14 +40,14 @@ module _ (w : Network) (limits : Limits w) where
   -- so its finite bounds are at most 84,414,400 in size, and the times picked at most seven times that
   reached-small : {capacity : ℕ} {o : Outcome} → Concluded w capacity o → (k : ℕ) → answered o .verdict ≡ verdict.Reached (cycleNumber k)
       → StartsSmall (take (w .n) (answered o .start))
-  reached-small (reached-at {d} {k = j} f s) k e =
+  reached-small (reached-at {d} {k = j} f s a) k e =
       let few = limits .table .few-departures in
       let zone = zone-limit (w .n) j few (omega (arith, f .to-horizon, limits .few-cycles)) in
       rw (first-times (w .n) d)
       (map-every seconds (every-map (λ x h. omega (arith, mul-le-mul few zone)) (pick-small (w .n) d (made-small (common-made j s)))))
-  reached-small (concluded.table-full f) k e = let z : _≡_ {A = ℕ} 0 1 = cc in absurd (omega arith)
-  reached-small (concluded.bound-too-large l s f) k e = let z : _≡_ {A = ℕ} 0 1 = cc in absurd (omega arith)
-  reached-small (clear-at s u) k e = let z : _≡_ {A = ℕ} 0 1 = cc in absurd (omega arith)
+  reached-small (concluded.table-full g f) k e = let z : _≡_ {A = ℕ} 0 1 = cc in absurd (omega arith)
+  reached-small (concluded.bound-too-large l g f h) k e = let z : _≡_ {A = ℕ} 0 1 = cc in absurd (omega arith)
+  reached-small (clear-at s u a) k e = let z : _≡_ {A = ℕ} 0 1 = cc in absurd (omega arith)
   reached-small (never-at h) k e = let z : _≡_ {A = ℕ} 0 1 = cc in absurd (omega arith)
 
 module _ (c : Case) (capacity size : ℕ) (limits : InLimits c capacity size) where
@@ -54,7 +55,7 @@ module _ (c : Case) (capacity size : ℕ) (limits : InLimits c capacity size) wh
   unfolding network
   start-small =
       let l = limits-of c capacity size limits in
-      rw (answer-in c capacity size limits) (reached-small (network c) l (conclusion (network c) capacity (l .table .regular)))
+      rw (answer-in c capacity size limits) (reached-small (network c) l (conclusion (network c) capacity (l .table .regular) (l .table .some-departures)))
 
   -- a run accepts the start, for every cycle from 0 to 64, and its times are those of the definition
   pub start-runs : (k j : ℕ) → answer c capacity size .verdict ≡ verdict.Reached (cycleNumber k) → j ≤ 64

@@ -9,16 +9,16 @@ use mathlib.Core.Option.{Option, none, some, Option·map}
 use borrow.Author.Tests.{ltb-true, ltb-false, leb-true, leb-false}
 use lib.ListN.{length}
 use lib.Dec.{ltb, leb}
-use Rattle.model.specs.Lists.{when, orElse}
+use Rattle.model.specs.Lists.{when, orElse, Every, done, both, Some, here, there}
 use Rattle.model.specs.Bound.{Bound}
 use Rattle.model.specs.Matrix.{Matrix}
 use Rattle.model.specs.Pattern.{onlyDifferences}
 use Rattle.model.specs.Network.{Network, clocked, Repeat, repeatOf}
 use Rattle.model.specs.Search.{lists, common, firstCommon, pick, Outcome, reached, clear, never, tableFull, boundTooLarge, Plan, planWith, plan, someLarge, settled, searchFrom, outcome}
 use Rattle.model.specs.Demands.{Witness, Met, Differences}
-use Rattle.model.proofs.Listed.{Every, done, both, Some, here, there, some-map, some-at, every-some}
+use Rattle.model.specs.Conditions.{Regular}
+use Rattle.model.proofs.Listed.{some-map, some-at, every-some}
 use Rattle.model.proofs.Patterns.{common-some, common-none}
-use Rattle.model.proofs.Cycles.{Regular}
 use Rattle.model.proofs.ZoneLists.{lists-closed, list-in}
 use Rattle.model.proofs.Start.{pick-length, pick-member}
 

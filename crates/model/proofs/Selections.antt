@@ -8,18 +8,14 @@ use mathlib.Core.List.{List, [], _∷_, map}
 use lib.ListN.{length, getD}
 use Rattle.model.specs.Network.{Time, blank, secs, time, isTime}
 use Rattle.model.specs.Search.{columns, selections}
-use Rattle.model.proofs.Cycles.{Column}
-use Rattle.model.proofs.Listed.{Every, done, both, every-map, map-every, flatMap-every, Some, here, there, some-map, in-map, in-flatMap}
+use Rattle.model.specs.Conditions.{Column, Chosen, clock, column, Cols}
+use Rattle.model.specs.Lists.{Every, done, both, Some, here, there}
+use Rattle.model.proofs.Listed.{every-map, map-every, flatMap-every, some-map, in-map, in-flatMap}
 
 -- a column for each of r rows from row i on
 pub data Selection (n : ℕ) (a : List Time) : ℕ → ℕ → List ℕ → Type 0 where
   none : {i : ℕ} → Selection n a zero i []
   next : {r i j : ℕ} {s : List ℕ} → Column n a i j → Selection n a r (suc i) s → Selection n a (suc r) i (j ∷ s)
-
--- the column of a row: the clock's, of row 0, is 0
-pub data Chosen (n : ℕ) (a : List Time) : ℕ → ℕ → Type 0 where
-  clock : Chosen n a 0 0
-  column : {r s : ℕ} → Column n a (suc r) s → Chosen n a (suc r) s
 
 pub chosen-column : {n : ℕ} {a : List Time} {r s : ℕ} → Chosen n a (suc r) s → Column n a (suc r) s
 chosen-column (column c) = c
@@ -31,10 +27,6 @@ chosen-at {i = suc r} h c = column c
 pub chosen-fits : {n : ℕ} {a : List Time} {i s : ℕ} → Chosen n a i s → s < suc n
 chosen-fits clock = omega arith
 chosen-fits (column c) = let h = c .to-n in omega arith
-
--- the columns of rows 0 to i - 1
-abbrev pub Cols : ℕ → List Time → List ℕ → ℕ → Type 0
-Cols n a cols i = (l : ℕ) → l < i → Chosen n a l (getD cols l 0)
 
 module _ (n : ℕ) (a : List Time) where
   -- the columns that are listed hold a time

@@ -13,20 +13,14 @@ use lib.Dec.{leb}
 use borrow.Author.Tests.{leb-true, leb-false, le-leb, lt-leb}
 use Rattle.ints.proofs.Integers.{up, dn, ints, add-ud, sub-ud, neg-ud, pos-ud, abs-ud}
 use Rattle.model.specs.Bound.{Bound, none, most, any, Holds, plus}
-use Rattle.model.specs.Matrix.{Matrix, entry, Constraint, tighten}
+use Rattle.model.specs.Matrix.{Matrix, entry, Constraint, tighten, Member}
 use Rattle.model.specs.Search.{leastOr}
+use Rattle.model.specs.Lists.{Every, done, both}
+use Rattle.model.specs.Conditions.{Closed, Fits, Small, free, sized}
 use Rattle.model.proofs.Bounds.{bounds}
-use Rattle.model.proofs.Listed.{Every, done, both}
-use Rattle.model.proofs.Closed.{Closed}
-use Rattle.model.proofs.Members.{Member}
 use Rattle.model.proofs.Attained.{meets}
-use Rattle.model.proofs.Zones.{ClosedZone, closed, Fits, Keeps, tighten-closed, tighten-in}
+use Rattle.model.proofs.Zones.{ClosedZone, closed, Keeps, tighten-closed, tighten-in}
 use Rattle.model.proofs.Gap.{gap}
-
--- no bound, or one of at most B in size
-pub data Small (B : ℕ) : Bound → Type 0 where
-  free : Small B none
-  sized : {z : ℤ} → natAbs z ≤ B → Small B (most z)
 
 -- the size of a finite bound, as a rule for omega
 pub small-size : {B : ℕ} {z : ℤ} → Small B (most z) → natAbs z ≤ B

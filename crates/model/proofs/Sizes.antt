@@ -10,43 +10,27 @@ use mathlib.Core.List.{List, [], _++_, map, flatten, foldl, foldl-append}
 use mathlib.Core.Bool.{false}
 use mathlib.Core.Option.{Option, none, some}
 use lib.IntN.{ℤ, _-ℤ_, natAbs}
-use Rattle.model.specs.Lists.{tabulate, anyOf}
+use Rattle.model.specs.Lists.{tabulate, anyOf, Every, done, both}
 use Rattle.model.specs.Bound as Bd
 use Rattle.model.specs.Bound.{Bound, most, plus}
-use Rattle.model.specs.Matrix.{Matrix, entry, everything, Constraint, constrain, tighten}
+use Rattle.model.specs.Matrix.{Matrix, entry, everything, Constraint, constrain, tighten, Member}
 use Rattle.model.specs.Pattern.{pairBound, patternConstraints}
 use Rattle.model.specs.Network.{Time, blank, secs, Network, time, secsOf}
 use Rattle.model.specs.Search.{chosen, slack, attains, keeps, preimage, lists, previous, large, someLarge}
-use Rattle.model.proofs.Listed.{Every, done, both, every-append, every-split, every-map, every-tabulate, at-tabulate, every-flatten, in-flatten, every-both, map-every, of-map-every, flatMap-every}
+use Rattle.model.specs.Conditions.{Closed, Fits, Small, free, sized, Chosen, clock, column, Cols, AllSmall, Made, TimesSmall}
+use Rattle.model.proofs.Listed.{every-append, every-split, every-map, every-tabulate, at-tabulate, every-flatten, in-flatten, every-both, map-every, of-map-every, flatMap-every}
 use Rattle.model.proofs.Entries.{every-entry}
-use Rattle.model.proofs.Closed.{Closed}
-use Rattle.model.proofs.Members.{Member}
-use Rattle.model.proofs.Zones.{In, Fits, Keeps, same-zones, tighten-closed, tighten-in}
+use Rattle.model.proofs.Zones.{In, Keeps, same-zones, tighten-closed, tighten-in}
 use Rattle.model.proofs.Patterns.{pattern-fits}
 use Rattle.model.proofs.Rows.{Row, behind}
 use Rattle.model.proofs.Kept.{kept-every, not-any}
-use Rattle.model.proofs.Size.{Small, free, sized, small-mono, small-sum, minus-small, tightest-small}
-use Rattle.model.proofs.Selections.{Selection, Chosen, clock, column, Cols, chosen-fits, selections-sound}
+use Rattle.model.proofs.Size.{small-mono, small-sum, minus-small, tightest-small}
+use Rattle.model.proofs.Selections.{Selection, chosen-fits, selections-sound}
 use Rattle.model.proofs.Preimage.{Selected, col, cols, value, value-image, keeps-value, attains-behind, preimage-closed, preimage-in}
 use Rattle.model.proofs.ZoneLists.{member-at, lists-closed}
 
--- each limit is at most B in size
-abbrev pub AllSmall : ℕ → List Constraint → Type 0
-AllSmall B ks = Every (λ k. Small B (k .limit)) ks
-
--- z is the tightest matrix of constraints of at most B
-pub record Made (n B : ℕ) (z : Matrix) : Type 0 where
-  pub by : List Constraint
-  pub fits : Every (Fits (suc n)) by
-  pub small : AllSmall B by
-  pub is : tighten (suc n) by ≡ some z
-
 pub made-small : {n B : ℕ} {z : Matrix} → Made n B z → (i j : ℕ) → i < suc n → j < suc n → Small (n * B) (entry (suc n) z i j)
 made-small {n} {B} {z} m = tightest-small n B (m .by) z (m .fits) (m .small) (m .is)
-
--- times of at most 86,400
-abbrev pub TimesSmall : ℕ → List Time → Type 0
-TimesSmall n a = (i j : ℕ) (v : ℤ) → time n a i j ≡ secs v → natAbs v ≤ 86400
 
 module _ (n : ℕ) (a : List Time) (ts : TimesSmall n a) where
   -- what a column adds

@@ -12,20 +12,19 @@ use lib.Signed.{_≤ℤ_}
 use lib.ListN.{length, getD, length-append, length-drop, List·getD-append}
 use lib.Seq.{getD-append-seam, getD-drop}
 use Rattle.ints.proofs.Integers.{ints, add-ud, sub-ud, neg-ud}
-use Rattle.model.specs.Lists.{tabulate}
+use Rattle.model.specs.Lists.{tabulate, Every}
 use Rattle.model.specs.Bound as B
 use Rattle.model.specs.Bound.{Bound, most, any, Holds, plus, tighter}
-use Rattle.model.specs.Matrix.{Matrix, entry}
+use Rattle.model.specs.Matrix.{Matrix, entry, Member}
 use Rattle.model.specs.Pattern.{InPattern}
 use Rattle.model.specs.Network.{clocked}
 use Rattle.model.specs.Search.{common, tightest, above, below, leastOr, choices, pick}
+use Rattle.model.specs.Conditions.{Closed, latest, earliest, Small, free}
 use Rattle.model.proofs.Bounds.{bounds, leB-refl, leB-trans, holds-sum, between, plus-none, tighter-left, tighter-right}
-use Rattle.model.proofs.Listed.{Every, every-getD}
-use Rattle.model.proofs.Closed.{Closed}
-use Rattle.model.proofs.Members.{Member}
-use Rattle.model.proofs.Attained.{tightestOf-either, Upto, latest, earliest, Possible, next-time, upto-next, takes-next}
+use Rattle.model.proofs.Listed.{every-getD}
+use Rattle.model.proofs.Attained.{tightestOf-either, Upto, Possible, next-time, upto-next, takes-next}
 use Rattle.model.proofs.Patterns.{common-some}
-use Rattle.model.proofs.Size.{Small, free, small-mono, term-small, neg-small, least-small}
+use Rattle.model.proofs.Size.{small-mono, term-small, neg-small, least-small}
 
 -- where any time is between two bounds, the one taken is
 taken-between : (w u : Bound) (v : ℤ) → Holds v u → Holds (negℤ v) w → Holds (leastOr w u) u × Holds (negℤ (leastOr w u)) w

@@ -6,10 +6,9 @@ use lib.IntN.{ℤ}
 use Rattle.ints.proofs.Integers.{le-nat}
 use Rattle.model.specs.Bound.{LeB}
 use Rattle.model.proofs.Bounds.{nat-leB, leB-trans, leB-antisym, leB-of-holds}
-use Rattle.model.specs.Matrix.{Matrix, entry}
+use Rattle.model.specs.Matrix.{Matrix, entry, Member}
+use Rattle.model.specs.Conditions.{Closed}
 use Rattle.model.proofs.Entries.{ext-entry}
-use Rattle.model.proofs.Closed.{Closed}
-use Rattle.model.proofs.Members.{Member}
 use Rattle.model.proofs.Attained.{reaches}
 
 -- fewer members, tighter entries

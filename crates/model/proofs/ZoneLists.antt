@@ -7,21 +7,20 @@ use mathlib.Core.List.{List, [], _∷_, map, flatMap}
 use mathlib.Core.Option.{Option}
 use lib.IntN.{ℤ}
 use lib.ListN.{getD}
-use Rattle.model.specs.Lists.{tabulate}
-use Rattle.model.specs.Matrix.{Matrix, tighten}
+use Rattle.model.specs.Lists.{tabulate, Every, done, both, Some, here, there}
+use Rattle.model.specs.Matrix.{Matrix, tighten, Member}
 use Rattle.model.specs.Pattern.{patternConstraints, InPattern}
 use Rattle.model.specs.Network.{Time, blank, secs, Network, time, latest, after, clocked, next, cycle, cycles}
 use Rattle.model.specs.Search.{selections, preimage, previous, lists}
+use Rattle.model.specs.Conditions.{Closed, Column, Regular, image}
 use Rattle.model.proofs.MaxPlus.{latest-attained, latestOf-upper}
-use Rattle.model.proofs.Listed.{Every, done, both, every-map, every-all, map-every, flatMap-every, Some, here, there, some-map, every-some, some-at, in-map, of-map, in-flatMap, of-flatMap}
+use Rattle.model.proofs.Listed.{every-map, every-all, map-every, flatMap-every, some-map, every-some, some-at, in-map, of-map, in-flatMap, of-flatMap}
 use Rattle.model.proofs.Entries.{length-tabulate, getD-tabulate}
-use Rattle.model.proofs.Closed.{Closed}
-use Rattle.model.proofs.Members.{Member}
 use Rattle.model.proofs.Zones.{Is}
-use Rattle.model.proofs.Cycles.{Column, Regular, next-is, clocked-cycle, cycles-add}
+use Rattle.model.proofs.Cycles.{next-is, clocked-cycle, cycles-add}
 use Rattle.model.proofs.Patterns.{closed-some, pattern-closed, pattern-in}
 use Rattle.model.proofs.Selections.{Selection, selections-sound, selections-complete, select}
-use Rattle.model.proofs.Preimage.{Attains, image, preimage-closed, preimage-in}
+use Rattle.model.proofs.Preimage.{Attains, preimage-closed, preimage-in}
 use Rattle.model.proofs.Kept.{Distinct, alone, kept-of, of-kept, kept-every, kept-distinct}
 
 -- membership looks at x(0) to x(m - 1) alone
@@ -29,7 +28,7 @@ pub member-at : (m : ℕ) (d : Matrix) {x y : ℕ → ℤ} → ((i : ℕ) → i 
 member-at m d same mem i j hi hj = rw (same i hi, same j hj) at (mem i j hi hj)
 
 module _ (n : ℕ) (a : List Time) where
-  image-cycle : (xs : List ℤ) (i : ℕ) → i < suc n → image n a (clocked xs) i ≡ clocked (cycle n a xs) i
+  pub image-cycle : (xs : List ℤ) (i : ℕ) → i < suc n → image n a (clocked xs) i ≡ clocked (cycle n a xs) i
   unfolding image clocked
   image-cycle xs zero h = refl
   image-cycle xs (suc i) h = sym (clocked-cycle n a xs (suc i) (omega arith) (omega arith))

@@ -6,13 +6,14 @@ use mathlib.Core.List.{List, _∷_, foldl}
 use mathlib.Core.Option.{Option, none, some}
 use lib.IntN.{ℤ, _-ℤ_}
 use Rattle.model.specs.Bound.{Bound, LeB, Holds}
-use Rattle.model.specs.Matrix.{Matrix, entry, Constraint, constrain, tighten}
+use Rattle.model.specs.Matrix.{Matrix, entry, Constraint, constrain, tighten, Member}
+use Rattle.model.specs.Lists.{Every, done, both}
+use Rattle.model.specs.Conditions.{Closed, Fits}
 use Rattle.model.proofs.Bounds.{leB-trans}
-use Rattle.model.proofs.Listed.{Every, done, both}
-use Rattle.model.proofs.Closed.{Closed, Within, within-is, within-closed, everything-closed}
+use Rattle.model.proofs.Closed.{Within, within-is, within-closed, everything-closed}
 use Rattle.model.proofs.Attained.{has-member}
 use Rattle.model.proofs.Unique.{same-members}
-use Rattle.model.proofs.Members.{Member, within-sound, within-complete, within-none, everything-member}
+use Rattle.model.proofs.Members.{within-sound, within-complete, within-none, everything-member}
 
 pub data ClosedZone (m : ℕ) : Option Matrix → Type 0 where
   empty : ClosedZone m none
@@ -25,10 +26,6 @@ Is P (some d) = P d
 
 abbrev pub In : ℕ → Option Matrix → (ℕ → ℤ) → Type 0
 In m o x = Is (λ d. Member m d x) o
-
-pub record Fits (m : ℕ) (k : Constraint) : Type 0 where
-  pub row-fits : k .row < m
-  pub col-fits : k .col < m
 
 abbrev pub Keeps : (ℕ → ℤ) → Constraint → Type 0
 Keeps x k = Holds (x (k .row) -ℤ x (k .col)) (k .limit)

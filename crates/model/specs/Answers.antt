@@ -18,7 +18,7 @@ use Rattle.model.specs.declared.Run.{Run}
 use Rattle.model.specs.Lists.{padded}
 use Rattle.model.specs.Network.{cycles}
 use Rattle.model.specs.Search.{Outcome, reached, clear, never, tableFull, boundTooLarge, outcome}
-use Rattle.model.specs.Faults.{returned, network, callFault, runFault}
+use Rattle.model.specs.Faults.{number, returned, network, callFault, runFault}
 use Rattle.model.specs.Packed.{Reading, got, refused, parse, caseOf}
 
 abbrev pub seconds : ℤ → Seconds
@@ -31,12 +31,18 @@ cycleNumber k = record { 0 = k }
 abbrev pub sevenTimes : List ℤ → List Seconds
 sevenTimes xs = padded (seconds (pos 0)) 7 (map seconds xs)
 
--- the number that goes with a verdict
-abbrev pub value : Verdict → ℕ
-value (verdict.Reached k) = k .0
-value (verdict.Clear k) = k .0
-value verdict.Never = 0
-value (verdict.Refused f) = returned f
+-- a verdict as numbers: which it is, document 01's number of the fault, 0 where there is none, and the number that goes with it: the
+-- cycle k, the horizon N, 0 for never, what the fault returns
+pub record Numbers : Type 0 where
+  pub kind : ℕ
+  pub fault : ℕ
+  pub value : ℕ
+
+abbrev pub numbersOf : Verdict → Numbers
+numbersOf (verdict.Refused f) = record { kind = 0; fault = number f; value = returned f }
+numbersOf (verdict.Reached k) = record { kind = 1; fault = 0; value = k .0 }
+numbersOf (verdict.Clear k) = record { kind = 2; fault = 0; value = k .0 }
+numbersOf verdict.Never = record { kind = 3; fault = 0; value = 0 }
 
 abbrev pub refusal : Fault → Answer
 refusal f = record { verdict = verdict.Refused f; start = sevenTimes [] }

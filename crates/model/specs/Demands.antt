@@ -2,43 +2,38 @@
 use Prim.Native.Nat.{ℕ, suc, _-_, _<_, _≤_}
 use mathlib.Core.Path.{_≡_}
 use mathlib.Core.Logic.{_↔_, _⊎_}
-use mathlib.Core.Bool.{true, _||_}
+use mathlib.Core.Bool.{true, false, _||_}
 use mathlib.Core.List.{List, map}
 use mathlib.Core.Option.{none, some}
 use lib.IntN.{ℤ, pos}
 use lib.ListN.{length, take, replicate}
-use Rattle.ints.specs.declared.Cycle.{Cycle}
 use Rattle.model.specs.declared.Case.{Case}
 use Rattle.model.specs.declared.Fault.{Fault}
 use Rattle.model.specs.declared.Fault.the-variants as fault
-use Rattle.model.specs.declared.Verdict.{Verdict}
 use Rattle.model.specs.declared.Verdict.the-variants as verdict
 use Rattle.model.specs.declared.Answer.{Answer}
 use Rattle.model.specs.Pattern.{InPattern, onlyDifferences}
-use Rattle.model.specs.Network.{Network, clocked, cycles, Repeat, repeatOf}
+use Rattle.model.specs.Network.{Network, clocked, cycles, power, added, Repeat}
 use Rattle.model.specs.Search.{lists, someLarge, plan}
 use Rattle.model.specs.Faults.{network, callFault, roomFault}
 use Rattle.model.specs.Packed.{got, refused, parse}
-use Rattle.model.specs.Answers.{cycleNumber, refusal}
+use Rattle.model.specs.Answers.{cycleNumber, Numbers, numbersOf, refusal, answer, workspaceAfter, answerPacked, workspaceAfterPacked}
 
 -- a case is within the limits if the call meets none of faults 1 to 10
 abbrev pub InLimits : Case → ℕ → ℕ → Type 0
 InLimits c capacity size = callFault c capacity size ≡ none
 
--- neither table full nor bound too large
-pub data Decided : Verdict → Type 0 where
-  reached : (k : Cycle) → Decided (verdict.Reached k)
-  clear : (k : Cycle) → Decided (verdict.Clear k)
-  never : Decided verdict.Never
-
-pub data Ended : Verdict → Type 0 where
-  decided : {v : Verdict} → Decided v → Ended v
-  table-full : (k : Cycle) → Ended (verdict.Refused (fault.TableFull k))
-  bound-too-large : (k : Cycle) → Ended (verdict.Refused (fault.BoundTooLarge k))
+-- how a case within the limits ends
+pub data Ended : Numbers → Type 0 where
+  reached : (k : ℕ) → Ended (record { kind = 1; fault = 0; value = k })
+  clear : (k : ℕ) → Ended (record { kind = 2; fault = 0; value = k })
+  never : Ended (record { kind = 3; fault = 0; value = 0 })
+  table-full : (k : ℕ) → Ended (record { kind = 0; fault = 11; value = k })
+  bound-too-large : (k : ℕ) → Ended (record { kind = 0; fault = 12; value = k })
 
 -- of the answer r to a call with this workspace, and the workspace afterwards
 pub record Demand1 (c : Case) (capacity : ℕ) (work : List ℤ) (r : Answer) (after : List ℤ) : Type 0 where
-  pub ends : InLimits c capacity (length work) → Ended (r .verdict) × (after ≡ replicate (length work) (pos 0))
+  pub ends : InLimits c capacity (length work) → Ended (numbersOf (r .verdict)) × (after ≡ replicate (length work) (pos 0))
   pub refuses : (f : Fault) → callFault c capacity (length work) ≡ some f → (r ≡ refusal f) × (after ≡ work)
 
 -- xs is a start in the start pattern whose k-step image is in the target
@@ -62,12 +57,6 @@ pub record First (w : Network) (k : ℕ) : Type 0 where
   pub not-before : NotBefore w k
   pub met : Met w k
 
--- of the answer r, for a case within the limits
-pub record Demand2 (c : Case) (r : Answer) : Type 0 where
-  pub exactly : Decided (r .verdict) → (k : ℕ) → (r .verdict ≡ verdict.Reached (cycleNumber k)) ↔ First (network c) k
-  pub start : (k : ℕ) → r .verdict ≡ verdict.Reached (cycleNumber k) → Witness (network c) k (map (λ x. x .0) (take (c .n) (r .start)))
-  pub otherwise : Decided (r .verdict) → NotBefore (network c) (suc (c .horizon .0)) → (r .verdict ≡ verdict.Clear (c .horizon)) ⊎ (r .verdict ≡ verdict.Never)
-
 -- the search ends early
 pub record EndsEarly (w : Network) (capacity : ℕ) : Type 0 where
   pub at : ℕ
@@ -76,14 +65,51 @@ pub record EndsEarly (w : Network) (capacity : ℕ) : Type 0 where
   pub too-much : (capacity < length (lists w at)) ⊎ (someLarge (lists w at) ≡ true)
   pub unmet : NotBefore w at
 
+-- list k is searched, the lists before it fit, and the target is not met before
+pub record EndsAt (w : Network) (capacity k : ℕ) : Type 0 where
+  pub from-one : 1 ≤ k
+  pub searched : k ≤ plan w .cycles
+  pub unmet : NotBefore w k
+  pub fit-before : (j : ℕ) → 1 ≤ j → j < k → (length (lists w j) ≤ capacity) × (someLarge (lists w j) ≡ false)
+
+-- list k ends the search as table full
+abbrev pub FullAt : Network → ℕ → ℕ → Type 0
+FullAt w capacity k = EndsAt w capacity k × (capacity < length (lists w k))
+
+-- as bound too large
+abbrev pub LargeAt : Network → ℕ → ℕ → Type 0
+LargeAt w capacity k = EndsAt w capacity k × (length (lists w k) ≤ capacity) × (someLarge (lists w k) ≡ true)
+
+-- of the answer r, for a case within the limits
+pub record Demand2 (c : Case) (capacity : ℕ) (r : Answer) : Type 0 where
+  pub first : (k : ℕ) → r .verdict ≡ verdict.Reached (cycleNumber k) → First (network c) k
+  pub exactly : (EndsEarly (network c) capacity → ⊥) → (k : ℕ) → (r .verdict ≡ verdict.Reached (cycleNumber k)) ↔ First (network c) k
+  pub start : (k : ℕ) → r .verdict ≡ verdict.Reached (cycleNumber k) → Witness (network c) k (map (λ x. x .0) (take (c .n) (r .start)))
+  pub otherwise : (EndsEarly (network c) capacity → ⊥) → NotBefore (network c) (suc (c .horizon .0))
+      → (r .verdict ≡ verdict.Clear (c .horizon)) ⊎ (r .verdict ≡ verdict.Never)
+  pub full : (k : ℕ) → (r .verdict ≡ verdict.Refused (fault.TableFull (cycleNumber k))) ↔ FullAt (network c) capacity k
+  pub large : (k : ℕ) → (r .verdict ≡ verdict.Refused (fault.BoundTooLarge (cycleNumber k))) ↔ LargeAt (network c) capacity k
+
 -- start or target bounds only differences
 abbrev pub Differences : Network → Type 0
 Differences w = (onlyDifferences (w .n) (w .start) || onlyDifferences (w .n) (w .target)) ≡ true
 
+-- power q is power p with one number added to every time, blanks in the same places. Powers are counted from 1
+pub record Repeated (w : Network) (q p : ℕ) (number : ℤ) : Type 0 where
+  pub from-one : 1 ≤ p
+  pub earlier : p < q
+  pub again : power (w .n) (w .times) (q - 1) ≡ added number (power (w .n) (w .times) (p - 1))
+
+-- the first repeated power: the least q from 2 to 64 that repeats some p from 1 to q - 1
+pub record LeastRepeat (w : Network) (r : Repeat) : Type 0 where
+  pub among : r .q ≤ 64
+  pub repeated : Repeated w (r .q) (r .p) (r .number)
+  pub first : (q p : ℕ) (number : ℤ) → q < r .q → Repeated w q p number → ⊥
+
 -- the five conditions of never
 pub record NeverHolds (w : Network) (capacity : ℕ) : Type 0 where
   pub again : Repeat
-  pub first : repeatOf w ≡ some again
+  pub first : LeastRepeat w again
   pub proviso : Differences w
   pub long-enough : again .q - 1 ≤ w .horizon
   pub unmet : NotBefore w (again .q)
@@ -91,14 +117,14 @@ pub record NeverHolds (w : Network) (capacity : ℕ) : Type 0 where
 
 -- of the answer r, for a case within the limits
 pub record Demand3 (c : Case) (capacity : ℕ) (r : Answer) : Type 0 where
-  pub beyond : (again : Repeat) → repeatOf (network c) ≡ some again → Differences (network c) → NotBefore (network c) (again .q)
+  pub beyond : (again : Repeat) → LeastRepeat (network c) again → Differences (network c) → NotBefore (network c) (again .q)
       → (k : ℕ) → 1 ≤ k → Met (network c) k → ⊥
   pub exactly : (r .verdict ≡ verdict.Never) ↔ NeverHolds (network c) capacity
   pub without-end : r .verdict ≡ verdict.Never → (k : ℕ) → 1 ≤ k → Met (network c) k → ⊥
 
 pub record Demands (c : Case) (capacity : ℕ) (work : List ℤ) (r : Answer) (after : List ℤ) : Type 0 where
   pub one : Demand1 c capacity work r after
-  pub two : InLimits c capacity (length work) → Demand2 c r
+  pub two : InLimits c capacity (length work) → Demand2 c capacity r
   pub three : InLimits c capacity (length work) → Demand3 c capacity r
 
 -- a packed case: refused with its first fault, or answered as the case that it holds, which has none of the faults 2 to 6
@@ -106,3 +132,14 @@ pub record PackedDemands (s : List ℕ) (capacity : ℕ) (work : List ℤ) (r : 
   pub refuses : (f : Fault) → parse s ≡ refused f → (r ≡ refusal f) × (after ≡ work)
   pub reads : (c : Case) (q : ℕ) → parse s ≡ got c q
       → (callFault c capacity (length work) ≡ roomFault (c .n) capacity (length work)) × Demands c capacity work r after
+
+-- what a call for a verdict gives
+pub record Given (c : Case) (capacity : ℕ) (work : List ℤ) (r : Answer) (after : List ℤ) : Type 0 where
+  pub answer : r ≡ answer c capacity (length work)
+  pub workspace : after ≡ workspaceAfter c capacity work
+  pub demands : Demands c capacity work r after
+
+pub record PackedGiven (s : List ℕ) (capacity : ℕ) (work : List ℤ) (r : Answer) (after : List ℤ) : Type 0 where
+  pub answer : r ≡ answerPacked s capacity (length work)
+  pub workspace : after ≡ workspaceAfterPacked s capacity work
+  pub demands : PackedDemands s capacity work r after

@@ -5,8 +5,10 @@ pub mod Matrix
 pub mod Pattern
 pub mod Network
 pub mod Search
+pub mod Zones
 pub mod Faults
 pub mod Packed
 pub mod Answers
 pub mod Demands
+pub mod Conditions
 pub mod Examples

@@ -37,3 +37,12 @@ when false x = none
 abbrev pub orElse : {X : Type 0} → Option X → Option X → Option X
 orElse (some x) o = some x
 orElse none o = o
+
+-- each element has P, and some element has
+pub data Every {X : Type 0} (P : X → Type 0) : List X → Type 0 where
+  done : Every P []
+  both : {x : X} {xs : List X} → P x → Every P xs → Every P (x ∷ xs)
+
+pub data Some {X : Type 0} (P : X → Type 0) : List X → Type 0 where
+  here : {x : X} {xs : List X} → P x → Some P (x ∷ xs)
+  there : {x : X} {xs : List X} → Some P xs → Some P (x ∷ xs)

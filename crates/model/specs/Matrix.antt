@@ -1,6 +1,6 @@
 -- Difference-bound matrices, flat and by rows: entry (i, j) of m rows bounds x(i) - x(j).
-use Prim.Native.Nat.{ℕ, _+_, _*_}
-use lib.IntN.{ℤ, pos}
+use Prim.Native.Nat.{ℕ, _+_, _*_, _<_}
+use lib.IntN.{ℤ, pos, _-ℤ_}
 use mathlib.Core.List.{List, flatten, foldl}
 use mathlib.Core.Option.{Option, none, some}
 use mathlib.Core.Bool.{Bool, cond}
@@ -8,13 +8,17 @@ use lib.ListN.{getD}
 use lib.Dec.{eqb}
 use Rattle.model.specs.Lists.{tabulate, sameLists}
 use Rattle.model.specs.Bound as B
-use Rattle.model.specs.Bound.{Bound, most, plus, tighter, negative, sameBound}
+use Rattle.model.specs.Bound.{Bound, most, Holds, plus, tighter, negative, sameBound}
 
 abbrev pub Matrix : Type 0
 Matrix = List Bound
 
 unfoldable pub entry : ℕ → Matrix → ℕ → ℕ → Bound
 entry m d i j = getD d (i * m + j) B.Bound.none
+
+-- the times x keep to each bound of d
+abbrev pub Member : ℕ → Matrix → (ℕ → ℤ) → Type 0
+Member m d x = (i j : ℕ) → i < m → j < m → Holds (x i -ℤ x j) (entry m d i j)
 
 unfoldable pub matrix : ℕ → (ℕ → ℕ → Bound) → Matrix
 matrix m f = flatten (tabulate m 0 (λ i. tabulate m 0 (λ j. f i j)))

@@ -78,6 +78,11 @@ unfoldable pub powersFrom : ℕ → ℕ → List Time → List Time → List (Li
 powersFrom zero n a b = []
 powersFrom (suc k) n a b = b ∷ powersFrom k n a (product n a b)
 
+-- power r + 1 of a
+unfoldable pub power : ℕ → List Time → ℕ → List Time
+power n a zero = a
+power n a (suc r) = product n a (power n a r)
+
 -- c added to every time, blanks in the same places
 unfoldable pub added : ℤ → List Time → List Time
 added c a = map (after (secs c)) a

@@ -1,6 +1,7 @@
 // The public types of the checker. What they mean is defined in specs/.
 ghost use mathlib.Core.Path.{_≡_};
 ghost use Rattle.model.specs.Faults.{number, returned};
+ghost use Rattle.model.specs.Answers.{numbersOf};
 use ints::Cycle;
 use ints::Seconds;
 
@@ -90,6 +91,44 @@ pub enum Verdict {
     Clear(Cycle),
     Never,
     Refused(Fault),
+}
+
+impl Verdict {
+    // Which verdict it is: 0 refused, 1 reached, 2 clear, 3 never.
+    pub fn kind(self) -> u32
+        ensures { λ r. ⌜ r ≡ numbersOf self .kind ⌝ }
+    {
+        match self {
+            Verdict::Refused(_) => 0,
+            Verdict::Reached(_) => 1,
+            Verdict::Clear(_) => 2,
+            Verdict::Never => 3,
+        }
+    }
+
+    // The fault's number, 0 where there is none.
+    pub fn fault(self) -> usize
+        ensures { λ r. ⌜ r ≡ numbersOf self .fault ⌝ }
+    {
+        match self {
+            Verdict::Refused(fault) => fault.number() as usize,
+            Verdict::Reached(_) => 0,
+            Verdict::Clear(_) => 0,
+            Verdict::Never => 0,
+        }
+    }
+
+    // The number that goes with it.
+    pub fn value(self) -> usize
+        ensures { λ r. ⌜ r ≡ numbersOf self .value ⌝ }
+    {
+        match self {
+            Verdict::Refused(fault) => fault.returned(),
+            Verdict::Reached(cycle) => cycle.0,
+            Verdict::Clear(horizon) => horizon.0,
+            Verdict::Never => 0,
+        }
+    }
 }
 
 pub struct Answer {

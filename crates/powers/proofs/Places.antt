@@ -1,117 +1,77 @@
--- The arrays: what a slot that was read says, where the entries of a power are, what a store changes, the table that is loaded.
-use Prim.Native.Nat.{ℕ, zero, suc, _+_, _*_, _-_, _≤_, _<_}
+-- Slots and tables of slots: what a slot says by its flag, where the entries of a table stand, what a store changes.
+use Prim.Native.Nat.{ℕ, zero, suc, _+_, _*_, _≤_, _<_}
 use native.Mathlib.Omega.{arith}
-use native.Mathlib.Nat.{mul-le-mul}
-use borrow.Author.Tests.{not-true, not-false}
+use native.Mathlib.Nat.{zero-add, mul-le-mul}
+use borrow.Author.Count.{below-more}
 use mathlib.Core.Path.{_≡_, refl, sym, _∙_}
 use mathlib.Core.List.{List, [], _∷_, map}
-use mathlib.Core.Bool.{Bool, true, false, not, _&&_, cond}
+use mathlib.Core.Bool.{true, _&&_}
 use lib.Arith.{digits-lt}
-use lib.IntN.{ℤ, pos, _-ℤ_}
 use lib.ListN.{length, getD, take, set, length-map, length-set}
 use lib.Seq.{length-take-le, getD-set-same, getD-set-other, ext-getD}
-use mir.Syntax.{w64}
-use mir.Val.{SFits}
-use Rattle.ints.specs.declared.Seconds.{Seconds}
-use Rattle.ints.proofs.Integers.{ints, sub-ud, abs-ud, fits}
 use Rattle.model.specs.declared.Slot.{Slot}
 use Rattle.model.specs.declared.Case.{Case}
-use Rattle.model.specs.Network.{Time, blank, secs, time, sameTime, powersFrom, firstRepeat, repeatOf}
-use Rattle.model.specs.Faults.{timeOf, network}
-use Rattle.model.proofs.Listed.{at-tabulate}
+use Rattle.model.specs.Network.{Time, blank, secs, powersFrom, firstRepeat, repeatOf}
+use Rattle.model.specs.Faults.{timeOf, nothing, network}
 use Rattle.model.proofs.Same.{and-true}
-use Rattle.model.proofs.Entries.{length-tabulate, getD-tabulate}
-use Rattle.model.proofs.Tabulated.{tabulate-ext}
-use Rattle.powers.specs.Readings.{departures, entries, places, largest, entryAt, powerIn, tableOf, Whole, Stored, AtMost, Power}
-use Rattle.powers.proofs.Bounded.{at-most-secs}
+use Rattle.powers.specs.Readings.{departures, entries, tableOf}
 
--- ---- a slot, by the test of its flag
-is-time : (e : Slot) → e .has ≡ true → timeOf e ≡ secs (e .value .0)
+-- ---- slots, by the test of their flags
+pub is-time : (e : Slot) → e .has ≡ true → timeOf e ≡ secs (e .value .0)
 unfolding timeOf
 is-time e h = rw h
 
-pub is-number : (z : Seconds) → timeOf (record { has = true; value = z }) ≡ secs (z .0)
+pub both-times : (a b : Slot) → (a .has && b .has) ≡ true → (timeOf a ≡ secs (a .value .0)) × (timeOf b ≡ secs (b .value .0))
+both-times a b h = let (p, q) = and-true (a .has) (b .has) h in (is-time a p, is-time b q)
+
+-- ---- a table
+pub few-entries : {n : ℕ} → n ≤ departures → n * n ≤ entries
+few-entries h = mul-le-mul h h
+
+pub place-fits : {n i j : ℕ} → n ≤ departures → i < n → j < n → i * n + j < entries
+place-fits h hi hj = omega (arith, digits-lt hi hj, few-entries h)
+
+-- its entries, from a table of slots
+pub entry-is : (m : ℕ) (slots : List Slot) (k : ℕ) → k < m → timeOf (getD slots k nothing) ≡ getD (map timeOf (take m slots)) k blank
 unfolding timeOf
-is-number z = refl
+entry-is zero slots k h = absurd (omega arith)
+entry-is (suc m) [] k h = refl
+entry-is (suc m) (e ∷ slots) zero h = refl
+entry-is (suc m) (e ∷ slots) (suc k) h = entry-is m slots k (omega arith)
 
-pub holds-time : (e : Slot) → not (e .has) ≡ false → timeOf e ≡ secs (e .value .0)
-holds-time e h = is-time e (not-false (e .has) h)
+pub table-length : {n : ℕ} → n ≤ departures → (slots : List Slot) → length slots ≡ entries → length (tableOf n slots) ≡ n * n
+table-length {n} h slots l = length-map (take (n * n) slots) timeOf ∙ length-take-le (n * n) slots (omega (arith, few-entries h))
 
-pub holds-none : (e : Slot) → not (e .has) ≡ true → timeOf e ≡ blank
-unfolding timeOf
-holds-none e h = rw (not-true (e .has) h)
+-- ---- the first k entries of ts stand from place b on
+abbrev pub Filled : ℕ → List Time → ℕ → List Slot → Type 0
+Filled b ts k slots = (j : ℕ) → j < k → timeOf (getD slots (b + j) nothing) ≡ getD ts j blank
 
-pub same-none : (e : Slot) → sameTime blank (timeOf e) ≡ not (e .has)
-unfolding sameTime timeOf
-same-none e = go (e .has)
-  where
-    go : (b : Bool) → sameTime blank (timeOf (record { has = b; value = e .value })) ≡ not b
-    go true = refl
-    go false = refl
+module _ (b : ℕ) (ts : List Time) (slots : List Slot) (e : Slot) (k : ℕ) (f : Filled b ts k slots) where
+  -- a store after them
+  pub filled-still : (i : ℕ) → b + k ≤ i → Filled b ts k (set slots i e)
+  filled-still i h j u = rw (getD-set-other slots i (b + j) e nothing (omega arith)) (f j u)
 
--- the difference of two small times
-pub difference-fits : (a b : Slot) → (a .has && b .has) ≡ true → AtMost largest (timeOf a) → AtMost largest (timeOf b)
-    → SFits w64 (b .value .0 -ℤ a .value .0)
-difference-fits a b e h k =
-    let (p, q) = and-true (a .has) (b .has) e in
-    let l = at-most-secs (rw (is-time a p) at h) in
-    let m = at-most-secs (rw (is-time b q) at k) in
-    fits (omega (ints, abs-ud (a .value .0), abs-ud (b .value .0), sub-ud (b .value .0) (a .value .0)))
+  -- one more, by a store
+  pub filled-more : b + k < length slots → timeOf e ≡ getD ts k blank → Filled b ts (k + 1) (set slots (b + k) e)
+  filled-more l h = below-more _ k (filled-still (b + k) (omega arith)) (rw (getD-set-same slots (b + k) e nothing) h)
 
--- ---- places
-pub few-entries : (n : ℕ) → n ≤ departures → n * n ≤ entries
-few-entries n h = mul-le-mul h h
+-- a table of slots that is being filled with ts: the first k entries are there
+pub record Begun (ts : List Time) (k : ℕ) (slots : List Slot) : Type 0 where
+  pub long : length slots ≡ entries
+  pub filled : Filled 0 ts k slots
 
-module _ (n : ℕ) (vs : List ℤ) (ps : List Bool) (r : ℕ) where
-  -- entry (i + 1, j + 1) of a power
-  pub time-in : (i j : ℕ) → i < n → j < n → time n (powerIn n vs ps r) (suc i) (suc j) ≡ entryAt vs ps (r * entries + (i * n + j))
-  unfolding time powerIn
-  time-in i j hi hj =
-      let a : suc i - 1 ≡ i = omega arith in
-      let b : suc j - 1 ≡ j = omega arith in
-      rw (a, b) (getD-tabulate (n * n) (r * entries) (i * n + j) (entryAt vs ps) blank (digits-lt hi hj))
-
-  -- what was read at entry k of a power is small
-  pub read-small : Power n vs ps r → (k : ℕ) → k < n * n → (e : Slot) → timeOf e ≡ entryAt vs ps (r * entries + k) → AtMost largest (timeOf e)
-  unfolding powerIn
-  read-small p k h e d = rw d (at-tabulate (n * n) (r * entries) (entryAt vs ps) (p .small) k h)
-
-  -- a power is a list of n * n entries
-  pub power-is : (ts : List Time) → length ts ≡ n * n → ((k : ℕ) → k < n * n → entryAt vs ps (r * entries + k) ≡ getD ts k blank) → powerIn n vs ps r ≡ ts
-  unfolding powerIn
-  power-is ts l h =
-      let m = length-tabulate (n * n) (r * entries) (entryAt vs ps) in
-      ext-getD blank _ ts (m ∙ sym l) (λ k u. getD-tabulate (n * n) (r * entries) k (entryAt vs ps) blank (omega arith) ∙ h k (omega arith))
-
--- where the entries below a place are as they were, so is a power that ends before it
-pub power-kept : (n : ℕ) (vs vs′ : List ℤ) (ps ps′ : List Bool) (r end : ℕ) → n ≤ departures → r * entries + entries ≤ end
-    → ((k : ℕ) → k < end → entryAt vs′ ps′ k ≡ entryAt vs ps k) → powerIn n vs′ ps′ r ≡ powerIn n vs ps r
-unfolding powerIn
-power-kept n vs vs′ ps ps′ r end f l h = tabulate-ext (n * n) (r * entries) _ _ (λ k _ u. h k (omega (arith, few-entries n f)))
-
--- ---- a store
-pub stored : (vs : List ℤ) (ps : List Bool) (k : ℕ) (v : ℤ) (b : Bool) → Whole vs ps → k < places
-    → Stored vs ps k (cond b (secs v) blank) (set vs k v) (set ps k b)
-unfolding entryAt
-stored vs ps k v b w h = record {
-  whole = record { values = length-set vs k v ∙ w .values; present = length-set ps k b ∙ w .present };
-  here =
-      let hv : k < length vs = omega arith in
-      let hp : k < length ps = omega arith in
-      rw (getD-set-same vs k v (pos 0), getD-set-same ps k b false);
-  others = λ j ne. rw (getD-set-other vs k j v (pos 0) ne, getD-set-other ps k j b false ne);
+pub begun-more : {ts : List Time} {k : ℕ} {slots : List Slot} → Begun ts k slots → k < entries → (e : Slot) → timeOf e ≡ getD ts k blank
+    → Begun ts (k + 1) (set slots k e)
+begun-more {ts} {k} {slots} b l e h = record {
+  long = length-set slots k e ∙ b .long;
+  filled = rw (zero-add k) at (filled-more 0 ts slots e k (b .filled) (omega (arith, b .long)) h);
 }
 
--- ---- the table
-module _ (z : Slot) where
-  pub slot-at : (m : ℕ) (slots : List Slot) (k : ℕ) → k < m → k < length slots → timeOf (getD slots k z) ≡ getD (map timeOf (take m slots)) k blank
-  slot-at m [] k h l = absurd (omega arith)
-  slot-at zero (e ∷ slots) k h l = absurd (omega arith)
-  slot-at (suc m) (e ∷ slots) zero h l = refl
-  slot-at (suc m) (e ∷ slots) (suc k) h l = slot-at m slots k (omega arith) (omega arith)
-
-pub table-length : (n : ℕ) (slots : List Slot) → n ≤ departures → length slots ≡ entries → length (tableOf n slots) ≡ n * n
-table-length n slots h l = length-map (take (n * n) slots) timeOf ∙ length-take-le (n * n) slots (omega (arith, few-entries n h))
+pub begun-done : {n : ℕ} {ts : List Time} {slots : List Slot} → n ≤ departures → Begun ts (n * n) slots → length ts ≡ n * n → tableOf n slots ≡ ts
+begun-done {n} {ts} {slots} h b m =
+    let e = table-length h slots (b .long) in
+    ext-getD blank (tableOf n slots) ts (e ∙ sym m)
+    (λ j u. sym (entry-is (n * n) slots j (omega arith)) ∙ (rw (zero-add j) at (b .filled j (omega arith))))
 
 -- of a case, what is looked for in the powers of its table is the definition's first repeated power
 pub of-case : (c : Case) → let a = tableOf (c .n) (c .times) in firstRepeat 1 [] (powersFrom 64 (c .n) a a) ≡ repeatOf (network c)

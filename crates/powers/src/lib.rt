@@ -1,17 +1,12 @@
-// The first repeated power of a table. There is room for all sixty-four powers, side by side in two flat arrays, made by a repeat expression:
-// times, and which of them are there. Power r + 1 stands from place r * TIMES on, by rows for n, whatever n is, so that places are linear in r. Where an
-// entry is not there its number is 0 and is never looked at.
+// The first repeated power of a table. There is room for all sixty-four powers, side by side in one flat array of slots, made by a repeat expression.
+// Power r + 1 stands from place r * TIMES on, by rows for n, whatever n is, so that places are linear in r. Arrays of slots go by value alone, and to copy
+// this one would take longer than the search: it stays in first_repeat, and the other functions are on slots and on tables of TIMES.
 ghost use mathlib.Core.Path.{_≡_};
 ghost use mathlib.Core.List.{[]};
-ghost use Prim.Native.Nat.{ℕ, _+_, _*_, _<_, _≤_};
-ghost use lib.IntN.{natAbs};
-ghost use lib.ListN.{getD};
 ghost use Rattle.model.specs.Network;
-ghost use Rattle.model.specs.Network.{blank, sameTime, powersFrom, firstRepeat};
+ghost use Rattle.model.specs.Network.{secs, sameTime, powersFrom, firstRepeat};
 ghost use Rattle.model.specs.Faults.{timeOf};
-ghost use Rattle.model.proofs.Listed.{Every};
-ghost use Rattle.powers.specs.Readings.{departures, entries, apart, entryAt, powerIn, powersIn, productIn, alike, repeatRead, tableOf};
-ghost use Rattle.powers.specs.Readings.{Whole, Stored, AtMost, Power, Made, Ready};
+ghost use Rattle.powers.specs.Readings.{largest, repeatRead, tableOf, AtMost, Sized, Ready};
 use ints::Seconds;
 use model::Slot;
 use model::TIMES;
@@ -39,205 +34,95 @@ pub enum Repeated {
     At(Again),
 }
 
-// Entry k of power r + 1.
-fn entry_at(values: &[i64; PLACES], present: &[bool; PLACES], r: usize, k: usize) -> Slot
-    requires { ⌜ (r < 64) × (k < entries) ⌝ }
-    ensures { λ e. ⌜ timeOf e ≡ entryAt (now (values .entry)) (now (present .entry)) (r * entries + k) ⌝ }
+// The later of a time and the sum of two.
+fn later_sum(latest: Slot, a: Slot, b: Slot) -> Slot
+    requires { ⌜ AtMost largest (timeOf a) × AtMost largest (timeOf b) ⌝ }
+    ensures { λ r. ⌜ timeOf r ≡ Network.later (timeOf latest) (Network.after (timeOf a) (timeOf b)) ⌝ }
 {
-    let place = r * TIMES + k;
-    if present[place] {
-        Slot {
-            has: true,
-            value: Seconds(values[place]),
-        }
-    } else {
-        NOTHING
+    if !(a.has & b.has) {
+        return latest;
     }
-}
-
-fn store(values: &mut [i64; PLACES], present: &mut [bool; PLACES], r: usize, k: usize, e: Slot)
-    requires { ⌜ Whole (now values) (now present) × (r < 64) × (k < entries) ⌝ }
-    ensures { λ _. ⌜ Stored (now (values .entry)) (now (present .entry)) (r * entries + k) (timeOf e) (now (values .exit)) (now (present .exit)) ⌝ }
-{
-    let place = r * TIMES + k;
-    if e.has {
-        let value = e.value;
-        let seconds = value.0;
-        values[place] = seconds;
-        present[place] = true;
-    } else {
-        values[place] = 0;
-        present[place] = false;
-    }
-}
-
-// The table becomes power 1.
-fn load(values: &mut [i64; PLACES], present: &mut [bool; PLACES], times: [Slot; TIMES], n: usize)
-    requires { ⌜ Whole (now values) (now present) × (n ≤ departures) ⌝ }
-    ensures { λ _. ⌜ Whole (now (values .exit)) (now (present .exit)) × (powerIn n (now (values .exit)) (now (present .exit)) 0 ≡ tableOf n times) ⌝ }
-{
-    let size = n * n;
-    for k in 0..size {
-        let e = times[k];
-        store(values, present, 0, k, e);
-    }
-}
-
-fn later(a: Slot, b: Slot) -> Slot
-    ensures { λ r. ⌜ timeOf r ≡ Network.later (timeOf a) (timeOf b) ⌝ }
-{
-    if !a.has {
-        return b;
-    }
-    if !b.has {
-        return a;
-    }
-    if a.value.at_most(b.value) { b } else { a }
-}
-
-// The size of an operand is at most that of a difference of two entries.
-fn after(a: Slot, b: Slot) -> Slot
-    requires { ⌜ AtMost apart (timeOf a) × AtMost apart (timeOf b) ⌝ }
-    ensures { λ r. ⌜ timeOf r ≡ Network.after (timeOf a) (timeOf b) ⌝ }
-{
-    if !a.has {
-        return NOTHING;
-    }
-    if !b.has {
-        return NOTHING;
+    let sum = a.value.plus(b.value);
+    if latest.has & !latest.value.at_most(sum) {
+        return latest;
     }
     Slot {
         has: true,
-        value: a.value.plus(b.value),
+        value: sum,
     }
 }
 
-fn same(a: Slot, b: Slot) -> bool
-    ensures { λ r. ⌜ r ≡ sameTime (timeOf a) (timeOf b) ⌝ }
+// The product of two tables: its entries are rows of the first by columns of the second.
+fn product(times: [Slot; TIMES], power: [Slot; TIMES], n: usize) -> [Slot; TIMES]
+    requires { ⌜ Sized n (tableOf n times) × Sized n (tableOf n power) ⌝ }
+    ensures { λ r. ⌜ tableOf n r ≡ Network.product n (tableOf n times) (tableOf n power) ⌝ }
 {
-    if !a.has {
-        return !b.has;
-    }
-    if !b.has {
-        return false;
-    }
-    a.value.at_most(b.value) & b.value.at_most(a.value)
-}
-
-// Entry k of the product of power 1 and power r + 1: its row by its column.
-fn entry(values: &[i64; PLACES], present: &[bool; PLACES], n: usize, r: usize, k: usize) -> Slot
-    requires { ⌜ Power n (now values) (now present) 0 × Power n (now values) (now present) r × (k < n * n) ⌝ }
-    ensures { λ e. ⌜ timeOf e ≡ getD (productIn n (now (values .entry)) (now (present .entry)) r) k blank ⌝ }
-{
-    let row = k / n;
-    let column = k % n;
-    let mut latest = NOTHING;
-    for l in 0..n {
-        let first = entry_at(values, present, 0, row * n + l);
-        let second = entry_at(values, present, r, l * n + column);
-        latest = later(latest, after(first, second));
-    }
-    latest
-}
-
-fn next_power(values: &mut [i64; PLACES], present: &mut [bool; PLACES], n: usize, r: usize)
-    requires { ⌜ Whole (now values) (now present) × Power n (now values) (now present) 0 × Power n (now values) (now present) r × (r < 63) ⌝ }
-    ensures { λ _. ⌜ Made n (now (values .entry)) (now (present .entry)) r (now (values .exit)) (now (present .exit)) ⌝ }
-{
-    let size = n * n;
-    for k in 0..size {
-        let e = entry(values, present, n, r, k);
-        store(values, present, r + 1, k, e);
-    }
-}
-
-// What is added to the first time of power p + 1 that power q + 1 holds too, to give that of power q + 1.
-fn gap(values: &[i64; PLACES], present: &[bool; PLACES], n: usize, p: usize, q: usize) -> Seconds
-    requires { ⌜ Power n (now values) (now present) p × Power n (now values) (now present) q ⌝ }
-    ensures { λ r. ⌜ r .0 ≡ Network.gap (powerIn n (now (values .entry)) (now (present .entry)) p)
-        (powerIn n (now (values .entry)) (now (present .entry)) q) ⌝ }
-{
-    let size = n * n;
-    for k in 0..size {
-        let a = entry_at(values, present, p, k);
-        let b = entry_at(values, present, q, k);
-        if a.has & b.has {
-            return b.value.minus(a.value);
+    let mut next = [NOTHING; TIMES];
+    for row in 0..n {
+        for column in 0..n {
+            let mut latest = NOTHING;
+            for l in 0..n {
+                let first = times[row * n + l];
+                let second = power[l * n + column];
+                latest = later_sum(latest, first, second);
+            }
+            next[row * n + column] = latest;
         }
     }
-    Seconds(0)
+    next
 }
 
-// Power p + 1 with c added is power q + 1.
-fn same_with(
-    values: &[i64; PLACES],
-    present: &[bool; PLACES],
-    n: usize,
-    p: usize,
-    q: usize,
-    c: Seconds,
-) -> bool
-    requires { ⌜ Power n (now values) (now present) p × Power n (now values) (now present) q × (natAbs (c .0) ≤ apart) ⌝ }
-    ensures { λ r. ⌜ r ≡ alike (c .0) (powerIn n (now (values .entry)) (now (present .entry)) p)
-        (powerIn n (now (values .entry)) (now (present .entry)) q) ⌝ }
+// b is a with c added.
+fn moved(a: Slot, b: Slot, c: Seconds) -> bool
+    requires { ⌜ AtMost largest (timeOf a) × AtMost largest (timeOf b) ⌝ }
+    ensures { λ r. ⌜ r ≡ sameTime (Network.after (secs (c .0)) (timeOf a)) (timeOf b) ⌝ }
 {
-    let add = Slot {
-        has: true,
-        value: c,
-    };
-    let size = n * n;
-    for k in 0..size {
-        let a = entry_at(values, present, p, k);
-        let b = entry_at(values, present, q, k);
-        if !same(after(add, a), b) {
-            return false;
-        }
+    if !(a.has & b.has) {
+        return !(a.has | b.has);
     }
-    true
+    let d = b.value.minus(a.value);
+    c.at_most(d) & d.at_most(c)
 }
 
-// The first earlier power that power q + 1 repeats.
-fn repeats(values: &[i64; PLACES], present: &[bool; PLACES], n: usize, q: usize) -> Repeated
-    requires { ⌜ ((r : ℕ) → r ≤ q → Power n (now values) (now present) r) ⌝ }
-    ensures { λ r. ⌜ repeatRead r ≡ Network.repeats (q + 1) 1 (powersIn n (now (values .entry)) (now (present .entry)) q)
-        (powerIn n (now (values .entry)) (now (present .entry)) q) ⌝ }
-{
-    for p in 0..q {
-        let number = gap(values, present, n, p, q);
-        if same_with(values, present, n, p, q, number) {
-            return Repeated::At(Again {
-                q: q + 1,
-                p: p + 1,
-                number,
-            });
-        }
-    }
-    Repeated::None
-}
-
-// The powers are made of power 1, one after the other, until one repeats an earlier one.
-fn first_among(values: &mut [i64; PLACES], present: &mut [bool; PLACES], n: usize) -> Repeated
-    requires { ⌜ Whole (now values) (now present) × (n ≤ departures) × Every (AtMost 86400) (powerIn n (now values) (now present) 0) ⌝ }
-    ensures { λ r. ⌜ repeatRead r ≡ firstRepeat 1 [] (powersFrom 64 n (powerIn n (now (values .entry)) (now (present .entry)) 0)
-        (powerIn n (now (values .entry)) (now (present .entry)) 0)) ⌝ }
-{
-    for r in 0..POWERS - 1 {
-        next_power(values, present, n, r);
-        let found = repeats(values, present, n, r + 1);
-        if let Repeated::At(_) = found {
-            return found;
-        }
-    }
-    Repeated::None
-}
-
-// The first repeated power among sixty-four of a table of n departures, whose entries stand in times by rows.
+// The first repeated power among sixty-four of a table of n departures, whose entries stand in times by rows. The powers are made one after the other,
+// until one repeats an earlier one. What is added is the gap of the first place that holds a time in both; with it the entries are compared, the last first.
 pub fn first_repeat(times: [Slot; TIMES], n: usize) -> Repeated
     requires { ⌜ Ready n (tableOf n times) ⌝ }
     ensures { λ r. ⌜ repeatRead r ≡ firstRepeat 1 [] (powersFrom 64 n (tableOf n times) (tableOf n times)) ⌝ }
 {
-    let mut values = [0i64; PLACES];
-    let mut present = [false; PLACES];
-    load(&mut values, &mut present, times, n);
-    first_among(&mut values, &mut present, n)
+    let size = n * n;
+    let mut powers = [NOTHING; PLACES];
+    let mut power = times;
+    for r in 0..POWERS {
+        'earlier: for p in 0..r {
+            let mut number = Seconds(0);
+            for k in 0..size {
+                let a = powers[p * TIMES + k];
+                let b = power[k];
+                if a.has & b.has {
+                    number = b.value.minus(a.value);
+                    break;
+                }
+            }
+            for k in 0..size {
+                let at = size - 1 - k;
+                let a = powers[p * TIMES + at];
+                let b = power[at];
+                if !moved(a, b, number) {
+                    continue 'earlier;
+                }
+            }
+            return Repeated::At(Again {
+                q: r + 1,
+                p: p + 1,
+                number,
+            });
+        }
+        for k in 0..size {
+            let e = power[k];
+            powers[r * TIMES + k] = e;
+        }
+        power = product(times, power, n);
+    }
+    Repeated::None
 }

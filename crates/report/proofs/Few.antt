@@ -11,7 +11,6 @@ use Rattle.model.specs.declared.Verdict.the-variants as verdict
 use Rattle.model.specs.Faults.{network, outside, tableFault, callFault}
 use Rattle.model.specs.Packed.{Reading, got, refused, parse}
 use Rattle.model.specs.Answers.{answer, answerPacked, unpacked}
-use Rattle.model.specs.Demands as D
 use Rattle.model.specs.Demands.{InLimits}
 use Rattle.model.proofs.Limits.{no-fault, limits-of}
 use Rattle.model.proofs.Parsed.{parsed}
@@ -23,7 +22,7 @@ module _ (c : Case) (capacity size : ℕ) where
   reached-few : InLimits c capacity size → (v : Verdict) → answer c capacity size .verdict ≡ v → lineCount v ≤ 65
   unfolding lineCount network
   reached-few l (verdict.Reached k) e =
-      let first = demand2 c capacity size l .exactly (rw e (D.Decided.reached k)) (k .0) .0 e in
+      let first = demand2 c capacity size l .first (k .0) e in
       omega (arith, first .to-horizon, limits-of c capacity size l .few-cycles)
   reached-few l (verdict.Clear h) e = omega arith
   reached-few l verdict.Never e = omega arith

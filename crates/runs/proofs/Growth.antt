@@ -6,9 +6,10 @@ use mathlib.Core.List.{List}
 use lib.IntN.{ℤ, pos, natAbs, _+ℤ_}
 use Rattle.ints.proofs.Integers.{ints, add-ud, abs-ud}
 use Rattle.model.specs.Network.{Time, blank, secs, time, latest, after, secsOf, clocked, next, cycle, cycles}
-use Rattle.model.proofs.Listed.{Every, done, both, every-tabulate, at-getD}
+use Rattle.model.specs.Lists.{Every, done, both}
+use Rattle.model.specs.Conditions.{TimesSmall}
+use Rattle.model.proofs.Listed.{every-tabulate, at-getD}
 use Rattle.model.proofs.MaxPlus.{later-either}
-use Rattle.model.proofs.Sizes.{TimesSmall}
 
 -- the times of a list, with the clock's zero
 pub clocked-small : (B : ℕ) {xs : List ℤ} → Every (λ x. natAbs x ≤ B) xs → (j : ℕ) → natAbs (clocked xs j) ≤ B

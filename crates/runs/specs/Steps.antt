@@ -8,7 +8,7 @@ use Rattle.ints.specs.declared.Seconds.{Seconds}
 use Rattle.model.specs.declared.Slot.{Slot}
 use Rattle.model.specs.Network.{Time, secs, clocked}
 use Rattle.model.specs.Faults.{timeOf}
-use Rattle.model.proofs.Limits.{TableLimits}
+use Rattle.model.specs.Conditions.{TableLimits}
 
 -- the table of n departures, and their times
 abbrev pub tableOf : ℕ → List Slot → List Time

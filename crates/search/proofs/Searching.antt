@@ -10,7 +10,6 @@ use mathlib.Core.Option.{Option, none, some}
 use lib.IntN.{ℤ}
 use lib.ListN.{length, drop}
 use borrow.Author.Tests.{lt-ltb, le-ltb}
-use Rattle.model.specs.declared.Verdict.{Verdict}
 use Rattle.model.specs.Matrix.{Matrix}
 use Rattle.model.specs.Network.{Network}
 use Rattle.model.specs.Search.{Outcome, reached, tableFull, pick, lists, previous, someLarge, firstCommon, settled, searchFrom}
@@ -20,7 +19,7 @@ use Rattle.zones.specs.Memory.{boundsIn, timesIn}
 use Rattle.lists.specs.Lists.{listIn, Meets}
 use Rattle.lists.proofs.Columns.{few-bounds}
 use Rattle.search.specs.declared.Step.{Step}
-use Rattle.search.specs.Searching.{networkIn, Searchable, Stepping, Stepped, full, met, on, Searched}
+use Rattle.search.specs.Searching.{networkIn, Searchable, Stepping, Stepped, full, met, on}
 use Rattle.search.proofs.Looked.{size}
 
 -- how list k ends the search
@@ -146,13 +145,14 @@ module _ {n capacity cycles : ℕ} {work₀ times start target : List ℤ} (q : 
       unfolding lists
       is-next = rw (← (r .list)) h
 
-      pub ended : (end : Verdict) → s .ended ≡ true → Searched w capacity cycles end (s .answer)
-      ended end t = go is-next t
+      pub ended : (e : Outcome) → s .ended ≡ true → s .answer ≡ answered (searchFrom w capacity cycles 1 (lists w 0) e)
+      ended e t = go is-next t
         where
-          go : {s : Step} → Stepped n capacity (suc k) goal (boundsIn start) (lists w (suc k)) after s → s .ended ≡ true → Searched w capacity cycles end (s .answer)
-          go (full p) t e f = ap answered (sym (from-here _ (settled-full w capacity (suc k) (lists w (suc k)) p) e))
-          go (met p c) t e f = ap answered (sym (from-here _ (settled-met w capacity (suc k) (lists w (suc k)) p (small-at (suc k) (omega (arith, q .few-cycles))) c) e))
-          go (on p c l) t e f = let z : _≡_ {A = ℕ} 0 1 = cc in absurd (omega arith)
+          go : {s : Step} → Stepped n capacity (suc k) goal (boundsIn start) (lists w (suc k)) after s → s .ended ≡ true
+              → s .answer ≡ answered (searchFrom w capacity cycles 1 (lists w 0) e)
+          go (full p) t = ap answered (sym (from-here _ (settled-full w capacity (suc k) (lists w (suc k)) p) e))
+          go (met p c) t = ap answered (sym (from-here _ (settled-met w capacity (suc k) (lists w (suc k)) p (small-at (suc k) (omega (arith, q .few-cycles))) c) e))
+          go (on p c l) t = let z : _≡_ {A = ℕ} 0 1 = cc in absurd (omega arith)
 
       pub onward : s .ended ≡ false → length after ≡ length work → Reached after (s .count) goal (suc k)
       onward t same = go is-next t

@@ -2,7 +2,7 @@
 use Prim.Native.Nat.{ℕ, suc, _+_, _*_, _≤_, _<_}
 use mathlib.Core.Path.{_≡_}
 use mathlib.Core.Bool.{true, false}
-use mathlib.Core.List.{List, []}
+use mathlib.Core.List.{List}
 use mathlib.Core.Option.{none, some}
 use lib.IntN.{ℤ, natAbs}
 use lib.ListN.{length, drop}
@@ -11,14 +11,15 @@ use Rattle.model.specs.Matrix.{Matrix}
 use Rattle.model.specs.Pattern.{pairBound}
 use Rattle.model.specs.Network.{Network}
 use Rattle.model.specs.declared.Answer.{Answer}
-use Rattle.model.specs.declared.Verdict.{Verdict}
-use Rattle.model.specs.Search.{Outcome, previous, firstCommon, pick, reached, clear, tableFull, lists, searchFrom}
-use Rattle.model.specs.Answers.{answered, sevenTimes}
-use Rattle.model.proofs.Listed.{Every}
-use Rattle.model.proofs.Sizes.{Made, TimesSmall}
+use Rattle.model.specs.Search.{Outcome, previous, firstCommon, pick, reached, clear, never, tableFull, lists, searchFrom}
+use Rattle.model.specs.Answers.{answered}
+use Rattle.model.specs.Lists.{Every}
+use Rattle.model.specs.Conditions.{Made, TimesSmall}
 use Rattle.zones.specs.Memory.{boundsIn, timesIn}
 use Rattle.zones.specs.Conditions.{Limit}
 use Rattle.lists.specs.Lists.{listIn, Halves, Meets}
+use Rattle.search.specs.declared.End.{End}
+use Rattle.search.specs.declared.End.the-variants as end
 use Rattle.search.specs.declared.Step.{Step}
 
 -- the network that stands in memory
@@ -66,6 +67,11 @@ pub data Stepped (n capacity k goal : ℕ) (start : List Bound) (zs : List Matri
   on : length zs ≤ capacity → firstCommon n start zs ≡ none → listIn ((n + 1) * (n + 1)) (length zs) (drop goal after) ≡ zs
       → Stepped n capacity k goal start zs after (record { ended = false; count = length zs; answer = answered (clear k) })
 
--- the answer of a search over so many cycles, `end` being the verdict of the outcome that getting past them means
-abbrev pub Searched : Network → ℕ → ℕ → Verdict → Answer → Type 0
-Searched w capacity cycles end r = (e : Outcome) → answered e ≡ record { verdict = end; start = sevenTimes [] } → r ≡ answered (searchFrom w capacity cycles 1 (lists w 0) e)
+-- the outcome of getting past the last cycle
+abbrev pub pastBy : End → Outcome
+pastBy (end.Clear horizon) = clear (horizon .0)
+pastBy end.Never = never
+
+-- the answer of a search over so many cycles
+abbrev pub Searched : Network → ℕ → ℕ → End → Answer → Type 0
+Searched w capacity cycles end r = r ≡ answered (searchFrom w capacity cycles 1 (lists w 0) (pastBy end))

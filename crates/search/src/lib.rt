@@ -1,20 +1,26 @@
 // The search: list after list, until one meets the start, the table is full, or the cycles are searched.
 ghost use mathlib.Core.Path.{_≡_};
-ghost use Prim.Native.Nat.{suc, _+_, _*_, _≤_, _<_};
+ghost use Prim.Native.Nat.{_+_, _*_, _<_};
 ghost use mathlib.Core.List.{[]};
 ghost use mathlib.Core.Bool.{true};
 ghost use lib.ListN.{length, drop};
 ghost use Rattle.model.specs.Search.{previous};
-ghost use Rattle.model.specs.Answers.{sevenTimes};
+ghost use Rattle.model.specs.Answers.{answered, sevenTimes};
 ghost use Rattle.zones.specs.Memory.{boundsIn, timesIn};
 ghost use Rattle.lists.specs.Lists.{listIn};
-ghost use Rattle.search.specs.Searching.{networkIn, Searchable, Stepping, Stepped, Searched};
+ghost use Rattle.search.specs.Searching.{networkIn, Searchable, Stepping, Stepped, pastBy, Searched};
 use ints::Cycle;
 use ints::Seconds;
 use model::Answer;
 use model::DEPARTURES;
 use model::Fault;
 use model::Verdict;
+
+// What getting past the last cycle means.
+pub enum End {
+    Clear(Cycle),
+    Never,
+}
 
 // What a list says: the search ends with this answer, or goes on with a list of count zones.
 struct Step {
@@ -30,6 +36,16 @@ pub fn plain(verdict: Verdict) -> Answer
     Answer {
         verdict,
         start: [Seconds(0); DEPARTURES],
+    }
+}
+
+// The answer of a search that gets past the last cycle.
+fn past(end: End) -> Answer
+    ensures { λ r. ⌜ r ≡ answered (pastBy end) ⌝ }
+{
+    match end {
+        End::Clear(horizon) => plain(Verdict::Clear(horizon)),
+        End::Never => plain(Verdict::Never),
     }
 }
 
@@ -55,26 +71,26 @@ fn one_cycle(
     start: &[i32],
     seen: &mut [i32],
     n: usize,
-    k: usize,
+    k: Cycle,
 ) -> Step
     requires { ⌜ Stepping n capacity source goal count (now work) (now times) (now start) × (length (now seen) ≡ 65536) ⌝ }
-    ensures { λ r. ⌜ Stepped n capacity k goal (boundsIn (now (start .entry))) (previous n (timesIn (now (times .entry))) (listIn ((n + 1) * (n + 1)) count (drop source (now (work .entry))))) (now (work .exit)) r ⌝ }
+    ensures { λ r. ⌜ Stepped n capacity (k .0) goal (boundsIn (now (start .entry))) (previous n (timesIn (now (times .entry))) (listIn ((n + 1) * (n + 1)) count (drop source (now (work .entry))))) (now (work .exit)) r ⌝ }
 {
     let built = lists::next_list(work, source, goal, count, capacity, times, seen, n);
     if built.full {
-        let answer = plain(Verdict::Refused(Fault::TableFull(Cycle(k))));
+        let answer = plain(Verdict::Refused(Fault::TableFull(k)));
         return settled(answer);
     }
     let found = lists::first_common(work, goal, built.count, start, n);
     if found.some {
         let start = found.start;
         let answer = Answer {
-            verdict: Verdict::Reached(Cycle(k)),
+            verdict: Verdict::Reached(k),
             start,
         };
         return settled(answer);
     }
-    let answer = plain(Verdict::Clear(Cycle(k)));
+    let answer = plain(Verdict::Clear(k));
     Step {
         ended: false,
         count: built.count,
@@ -82,7 +98,7 @@ fn one_cycle(
     }
 }
 
-// The answer of a search over so many cycles; end is the verdict of getting past them. What the workspace holds afterwards is free.
+// The answer of a search over so many cycles; end is what getting past them means. What the workspace holds afterwards is free.
 pub fn search(
     work: &mut [i32],
     capacity: usize,
@@ -90,18 +106,19 @@ pub fn search(
     start: &[i32],
     target: &[i32],
     n: usize,
-    cycles: usize,
-    end: Verdict,
+    cycles: Cycle,
+    end: End,
 ) -> Answer
-    requires { ⌜ Searchable n capacity cycles (now work) (now times) (now start) (now target) ⌝ }
-    ensures { λ r. ⌜ Searched (networkIn n cycles (now (times .entry)) (now (start .entry)) (now (target .entry))) capacity cycles end r ⌝ }
+    requires { ⌜ Searchable n capacity (cycles .0) (now work) (now times) (now start) (now target) ⌝ }
+    ensures { λ r. ⌜ Searched (networkIn n (cycles .0) (now (times .entry)) (now (start .entry)) (now (target .entry))) capacity (cycles .0) end r ⌝ }
 {
+    let last = cycles.0;
     let half = capacity * ((n + 1) * (n + 1));
     let mut count = lists::first_list(work, target, n);
     let mut seen = [0i32; lists::SEEN];
     let mut source = 0;
     let mut k = 0;
-    while k < cycles {
+    while k < last {
         let goal = half - source;
         k += 1;
         let next = one_cycle(
@@ -114,7 +131,7 @@ pub fn search(
             start,
             &mut seen,
             n,
-            k,
+            Cycle(k),
         );
         if next.ended {
             return next.answer;
@@ -122,5 +139,5 @@ pub fn search(
         count = next.count;
         source = goal;
     }
-    plain(end)
+    past(end)
 }

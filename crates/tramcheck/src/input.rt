@@ -40,7 +40,7 @@ fn read_piece(part: &mut [u8]) -> Input
 }
 
 // Reads until the input ends, a read fails or there is no room. The count of turns is for the proof that the loop ends.
-pub fn read_case(bytes: &mut [u8]) -> Input
+pub(crate) fn read_case(bytes: &mut [u8]) -> Input
     ensures { λ r. ⌜ Counts (r .size) (now (bytes .exit)) ⌝ }
 {
     let mut size = 0;

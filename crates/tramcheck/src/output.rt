@@ -25,7 +25,7 @@ fn write_piece(part: &[u8]) -> Taken
 }
 
 // Writes all of a text, or stops at a write that fails. The count of turns is for the proof that the loop ends.
-pub fn print(text: &[u8]) {
+pub(crate) fn print(text: &[u8]) {
     let mut size = 0;
     let mut more = true;
     let mut turns = u64::MAX;

@@ -1,7 +1,7 @@
 // Calls that are to be made again.
 
 // Whether the call that failed just now was interrupted, or found nothing ready, so that it is made again, later in the second case.
-pub fn call_again() -> bool {
+pub(crate) fn call_again() -> bool {
     let error = os::errno();
     if error == libc::EAGAIN {
         libc::sched_yield();

@@ -174,14 +174,14 @@ fn same(a: Outcome, b: Outcome) -> bool {
 }
 
 // The rest of a line for a packed case.
-pub fn packed_answer(packed: Packed, capacity: usize, room: usize) {
+pub(crate) fn packed_answer(packed: Packed, capacity: usize, room: usize) {
     io::write_all(1, b": ");
     write_outcome(packed_form(packed, capacity, room));
     io::write_all(1, b"\n");
 }
 
 // The rest of a line for a case in both forms.
-pub fn both_answers(case: Case, capacity: usize, room: usize) {
+pub(crate) fn both_answers(case: Case, capacity: usize, room: usize) {
     io::write_all(1, b": ");
     let unpacked = plain(case, capacity, room);
     write_outcome(unpacked);
@@ -196,13 +196,13 @@ pub fn both_answers(case: Case, capacity: usize, room: usize) {
 }
 
 // A line for a case in both forms.
-pub fn line(case: Case, capacity: usize, room: usize) {
+pub(crate) fn line(case: Case, capacity: usize, room: usize) {
     case_text::call(case, capacity, room);
     both_answers(case, capacity, room);
 }
 
 // 2 * 128 * (n + 1) * (n + 1), the numbers that Z = 128 needs.
-pub fn exact(n: usize) -> usize {
+pub(crate) fn exact(n: usize) -> usize {
     if n > 7 {
         return 1024;
     }
@@ -210,12 +210,12 @@ pub fn exact(n: usize) -> usize {
 }
 
 // A line for a case in both forms, with Z = 128 and as long a workspace as needed.
-pub fn example(case: Case) {
+pub(crate) fn example(case: Case) {
     line(case, 128, exact(case.n));
 }
 
 // The same with a note on what the case holds besides.
-pub fn noted(note: &[u8], case: Case) {
+pub(crate) fn noted(note: &[u8], case: Case) {
     let room = exact(case.n);
     case_text::call(case, 128, room);
     io::write_all(1, note);
@@ -223,7 +223,7 @@ pub fn noted(note: &[u8], case: Case) {
 }
 
 // A line for an unpacked case that has no packed form.
-pub fn unpacked_line(case: Case) {
+pub(crate) fn unpacked_line(case: Case) {
     let room = exact(case.n);
     case_text::call(case, 128, room);
     io::write_all(1, b", unpacked: ");

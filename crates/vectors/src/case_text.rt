@@ -38,7 +38,7 @@ fn times(table: [Slot; TIMES], n: usize) {
 }
 
 // The table, or n alone where it is not from 1 to 7.
-pub fn table(case: Case) {
+pub(crate) fn table(case: Case) {
     let n = case.n;
     if n == 0 || n > 7 {
         io::write_all(1, b"n ");
@@ -113,7 +113,7 @@ fn pattern(bounds: [Slot; BOUNDS], n: usize) {
 }
 
 // A call for a verdict.
-pub fn call(case: Case, capacity: usize, room: usize) {
+pub(crate) fn call(case: Case, capacity: usize, room: usize) {
     let start = case.start;
     let target = case.target;
     let horizon = case.horizon;

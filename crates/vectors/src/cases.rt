@@ -13,7 +13,7 @@ pub const NOTHING: Slot = Slot {
     value: Seconds(0),
 };
 
-pub fn slot(value: i64) -> Slot {
+pub(crate) fn slot(value: i64) -> Slot {
     Slot {
         has: true,
         value: Seconds(value),
@@ -21,7 +21,7 @@ pub fn slot(value: i64) -> Slot {
 }
 
 // A value marked absent.
-pub fn absent(value: i64) -> Slot {
+pub(crate) fn absent(value: i64) -> Slot {
     Slot {
         has: false,
         value: Seconds(value),
@@ -36,14 +36,14 @@ fn time(value: i64) -> Slot {
 }
 
 // The table of one time; the entries beyond are blank.
-pub fn table1(a: i64) -> [Slot; TIMES] {
+pub(crate) fn table1(a: i64) -> [Slot; TIMES] {
     let mut table = [NOTHING; TIMES];
     table[0] = time(a);
     table
 }
 
 // The table a b / c d.
-pub fn table2(a: i64, b: i64, c: i64, d: i64) -> [Slot; TIMES] {
+pub(crate) fn table2(a: i64, b: i64, c: i64, d: i64) -> [Slot; TIMES] {
     let mut table = table1(a);
     table[1] = time(b);
     table[2] = time(c);
@@ -52,7 +52,7 @@ pub fn table2(a: i64, b: i64, c: i64, d: i64) -> [Slot; TIMES] {
 }
 
 // A table with one entry changed.
-pub fn entry(table: [Slot; TIMES], place: usize, value: Slot) -> [Slot; TIMES] {
+pub(crate) fn entry(table: [Slot; TIMES], place: usize, value: Slot) -> [Slot; TIMES] {
     let mut changed = table;
     if place < TIMES {
         changed[place] = value;
@@ -61,12 +61,12 @@ pub fn entry(table: [Slot; TIMES], place: usize, value: Slot) -> [Slot; TIMES] {
 }
 
 // The pattern without a bound.
-pub fn any() -> [Slot; BOUNDS] {
+pub(crate) fn any() -> [Slot; BOUNDS] {
     [NOTHING; BOUNDS]
 }
 
 // A pattern with one entry changed.
-pub fn changed(pattern: [Slot; BOUNDS], place: usize, value: Slot) -> [Slot; BOUNDS] {
+pub(crate) fn changed(pattern: [Slot; BOUNDS], place: usize, value: Slot) -> [Slot; BOUNDS] {
     let mut next = pattern;
     if place < BOUNDS {
         next[place] = value;
@@ -75,7 +75,7 @@ pub fn changed(pattern: [Slot; BOUNDS], place: usize, value: Slot) -> [Slot; BOU
 }
 
 // The product of two numbers up to 8; of others 0.
-pub fn product(a: usize, b: usize) -> usize
+pub(crate) fn product(a: usize, b: usize) -> usize
     ensures { λ r. ⌜ r ≤ 64 ⌝ }
 {
     if a > 8 {
@@ -88,7 +88,7 @@ pub fn product(a: usize, b: usize) -> usize
 }
 
 // How many bounds a pattern has.
-pub fn pattern_size(n: usize) -> usize {
+pub(crate) fn pattern_size(n: usize) -> usize {
     if n > 7 {
         return 0;
     }
@@ -105,7 +105,13 @@ fn pair(n: usize, i: usize, j: usize) -> usize {
 }
 
 // A pattern with x(i) - x(j) <= b besides.
-pub fn at_most(pattern: [Slot; BOUNDS], n: usize, i: usize, j: usize, b: i32) -> [Slot; BOUNDS] {
+pub(crate) fn at_most(
+    pattern: [Slot; BOUNDS],
+    n: usize,
+    i: usize,
+    j: usize,
+    b: i32,
+) -> [Slot; BOUNDS] {
     let place = pair(n, i, j);
     let value = Seconds::of(b);
     changed(pattern, place, Slot { has: true, value })
@@ -116,14 +122,20 @@ fn opposite(a: i32) -> Seconds {
 }
 
 // A pattern with x(i) - x(j) >= a besides.
-pub fn at_least(pattern: [Slot; BOUNDS], n: usize, i: usize, j: usize, a: i32) -> [Slot; BOUNDS] {
+pub(crate) fn at_least(
+    pattern: [Slot; BOUNDS],
+    n: usize,
+    i: usize,
+    j: usize,
+    a: i32,
+) -> [Slot; BOUNDS] {
     let place = pair(n, j, i);
     let value = opposite(a);
     changed(pattern, place, Slot { has: true, value })
 }
 
 // A pattern with a <= x(i) - x(j) <= b besides.
-pub fn within(
+pub(crate) fn within(
     pattern: [Slot; BOUNDS],
     n: usize,
     i: usize,
@@ -136,49 +148,49 @@ pub fn within(
 }
 
 // d <= b, d >= a, a <= d <= b, where d is x(1) - x(2) of two departures.
-pub fn d_at_most(b: i32) -> [Slot; BOUNDS] {
+pub(crate) fn d_at_most(b: i32) -> [Slot; BOUNDS] {
     at_most(any(), 2, 1, 2, b)
 }
 
-pub fn d_at_least(a: i32) -> [Slot; BOUNDS] {
+pub(crate) fn d_at_least(a: i32) -> [Slot; BOUNDS] {
     at_least(any(), 2, 1, 2, a)
 }
 
-pub fn d_within(a: i32, b: i32) -> [Slot; BOUNDS] {
+pub(crate) fn d_within(a: i32, b: i32) -> [Slot; BOUNDS] {
     within(any(), 2, 1, 2, a, b)
 }
 
 // x(1) = a of one departure.
-pub fn at_time(a: i32) -> [Slot; BOUNDS] {
+pub(crate) fn at_time(a: i32) -> [Slot; BOUNDS] {
     within(any(), 1, 1, 0, a, a)
 }
 
 // x(1) = a and x(2) = b of two departures.
-pub fn at_times(a: i32, b: i32) -> [Slot; BOUNDS] {
+pub(crate) fn at_times(a: i32, b: i32) -> [Slot; BOUNDS] {
     let first = within(any(), 2, 1, 0, a, a);
     within(first, 2, 2, 0, b, b)
 }
 
 // Both of two times from 0 to 1.
-pub fn square() -> [Slot; BOUNDS] {
+pub(crate) fn square() -> [Slot; BOUNDS] {
     let first = within(any(), 2, 1, 0, 0, 1);
     within(first, 2, 2, 0, 0, 1)
 }
 
 // The tables R, S and O of document 01.
-pub fn r() -> [Slot; TIMES] {
+pub(crate) fn r() -> [Slot; TIMES] {
     table2(2, 5, 3, 3)
 }
 
-pub fn s() -> [Slot; TIMES] {
+pub(crate) fn s() -> [Slot; TIMES] {
     table2(BLANK, 0, 0, BLANK)
 }
 
-pub fn o() -> [Slot; TIMES] {
+pub(crate) fn o() -> [Slot; TIMES] {
     table1(1)
 }
 
-pub fn case_of(
+pub(crate) fn case_of(
     n: usize,
     horizon: usize,
     times: [Slot; TIMES],
@@ -195,7 +207,7 @@ pub fn case_of(
 }
 
 // Cases of one and of two departures.
-pub fn one(
+pub(crate) fn one(
     horizon: usize,
     times: [Slot; TIMES],
     start: [Slot; BOUNDS],
@@ -204,7 +216,7 @@ pub fn one(
     case_of(1, horizon, times, start, target)
 }
 
-pub fn two(
+pub(crate) fn two(
     horizon: usize,
     times: [Slot; TIMES],
     start: [Slot; BOUNDS],
@@ -214,6 +226,6 @@ pub fn two(
 }
 
 // A case of two departures without bounds.
-pub fn unbounded(horizon: usize, times: [Slot; TIMES]) -> Case {
+pub(crate) fn unbounded(horizon: usize, times: [Slot; TIMES]) -> Case {
     two(horizon, times, any(), any())
 }

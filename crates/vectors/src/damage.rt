@@ -8,14 +8,14 @@ use crate::text;
 use model::Case;
 
 // The packed form of a case, with the start of its line.
-pub fn packed(case: Case, capacity: usize, room: usize) -> Packed {
+pub(crate) fn packed(case: Case, capacity: usize, room: usize) -> Packed {
     case_text::call(case, capacity, room);
     io::write_all(1, b", packed");
     packing::pack(case)
 }
 
 // The first bytes.
-pub fn cut(whole: Packed, length: usize) -> Packed {
+pub(crate) fn cut(whole: Packed, length: usize) -> Packed {
     io::write_all(1, b", cut to ");
     text::number(length);
     io::write_all(1, b" bytes");
@@ -24,7 +24,7 @@ pub fn cut(whole: Packed, length: usize) -> Packed {
 }
 
 // A byte appended.
-pub fn longer(whole: Packed, byte: u8) -> Packed {
+pub(crate) fn longer(whole: Packed, byte: u8) -> Packed {
     io::write_all(1, b", byte ");
     text::number(byte as usize);
     io::write_all(1, b" added");
@@ -41,7 +41,7 @@ pub fn longer(whole: Packed, byte: u8) -> Packed {
 }
 
 // A bit set.
-pub fn marked(whole: Packed, at: usize) -> Packed {
+pub(crate) fn marked(whole: Packed, at: usize) -> Packed {
     io::write_all(1, b", bit ");
     text::number(at);
     io::write_all(1, b" set");
@@ -52,19 +52,19 @@ pub fn marked(whole: Packed, at: usize) -> Packed {
 }
 
 // Whole lines, with Z = 128 and as long a workspace as needed.
-pub fn cut_line(case: Case, length: usize) {
+pub(crate) fn cut_line(case: Case, length: usize) {
     let room = answers::exact(case.n);
     let damaged = cut(packed(case, 128, room), length);
     answers::packed_answer(damaged, 128, room);
 }
 
-pub fn longer_line(case: Case, byte: u8) {
+pub(crate) fn longer_line(case: Case, byte: u8) {
     let room = answers::exact(case.n);
     let damaged = longer(packed(case, 128, room), byte);
     answers::packed_answer(damaged, 128, room);
 }
 
-pub fn marked_line(case: Case, at: usize) {
+pub(crate) fn marked_line(case: Case, at: usize) {
     let room = answers::exact(case.n);
     let damaged = marked(packed(case, 128, room), at);
     answers::packed_answer(damaged, 128, room);

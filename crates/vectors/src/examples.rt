@@ -148,7 +148,7 @@ fn runs() {
     run_line(r, from2(-2, -5), 1);
 }
 
-pub fn show() {
+pub(crate) fn show() {
     io::write_all(1, b"Network examples\n");
     network();
     io::write_all(1, b"\nFirst repeated powers\n");

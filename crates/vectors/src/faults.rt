@@ -94,7 +94,7 @@ fn fills() {
     longer(255);
 }
 
-pub fn show() {
+pub(crate) fn show() {
     io::write_all(1, b"\nFault 1: the case ends\n");
     ends();
     io::write_all(

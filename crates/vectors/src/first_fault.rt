@@ -119,7 +119,7 @@ fn beyond() {
     );
 }
 
-pub fn show() {
+pub(crate) fn show() {
     io::write_all(1, b"\nTwo faults, the first is named\n");
     before_times();
     in_times();

@@ -148,7 +148,7 @@ fn longest_damaged() {
     packed_answer(longer, 128, 16384);
 }
 
-pub fn show() {
+pub(crate) fn show() {
     io::write_all(1, b"\nThree departures\n");
     three();
     io::write_all(1, b"\nSeven departures\n");

@@ -143,7 +143,7 @@ fn longer() {
     lent(0, 100);
 }
 
-pub fn show() {
+pub(crate) fn show() {
     io::write_all(1, b"\nTimes up to 86400 in size\n");
     times();
     io::write_all(1, b"\nBounds up to 1000000 in size\n");

@@ -20,7 +20,7 @@ fn next(at: usize) -> usize {
     if at < 8 * SIZE { at + 1 } else { at }
 }
 
-pub fn set_bit(bytes: &mut [u8; SIZE], at: usize) {
+pub(crate) fn set_bit(bytes: &mut [u8; SIZE], at: usize) {
     let i = at / 8;
     if i < SIZE {
         let old = bytes[i];
@@ -42,7 +42,7 @@ fn put(bytes: &mut [u8; SIZE], start: usize, value: u64, width: usize) -> usize 
     at
 }
 
-pub fn magnitude(value: i64) -> u64 {
+pub(crate) fn magnitude(value: i64) -> u64 {
     if value < 0 {
         (-(value + 1)) as u64 + 1
     } else {
@@ -98,7 +98,7 @@ fn bytes_for(bits: usize) -> usize {
 }
 
 // The packed form of a case.
-pub fn pack(case: Case) -> Packed {
+pub(crate) fn pack(case: Case) -> Packed {
     let n = case.n;
     let horizon = case.horizon;
     let times = case.times;
@@ -118,7 +118,7 @@ pub fn pack(case: Case) -> Packed {
 }
 
 // The first of five bytes.
-pub fn of_bytes(a: u8, b: u8, c: u8, d: u8, e: u8, length: usize) -> Packed {
+pub(crate) fn of_bytes(a: u8, b: u8, c: u8, d: u8, e: u8, length: usize) -> Packed {
     let mut bytes = [0u8; SIZE];
     bytes[0] = a;
     bytes[1] = b;

@@ -71,7 +71,7 @@ fn stripes() {
     one_shot(2);
 }
 
-pub fn show() {
+pub(crate) fn show() {
     io::write_all(
         1,
         b"\nDocument 002, backward reach sets of the unit square: starts inside X(-1)\n",

@@ -81,7 +81,7 @@ fn ignored() {
     run_line(one(1, cases::o(), any(), any()), from2(0, 1000000000001), 1);
 }
 
-pub fn show() {
+pub(crate) fn show() {
     io::write_all(
         1,
         b"\nRuns: cycles 0 to 64, start times up to 1000000000000 in size\n",

@@ -4,11 +4,11 @@ use ints::Seconds;
 use model::DEPARTURES;
 use model::Fault;
 
-pub fn number(n: usize) {
+pub(crate) fn number(n: usize) {
     io::print_decimal(1, n as u64);
 }
 
-pub fn signed(time: Seconds) {
+pub(crate) fn signed(time: Seconds) {
     if time.0 < 0 {
         io::write_all(1, b"-");
     }
@@ -16,7 +16,7 @@ pub fn signed(time: Seconds) {
 }
 
 // A number with its sign changed.
-pub fn opposite(time: Seconds) {
+pub(crate) fn opposite(time: Seconds) {
     if time.0 > 0 {
         io::write_all(1, b"-");
     }
@@ -24,7 +24,7 @@ pub fn opposite(time: Seconds) {
 }
 
 // All seven times.
-pub fn times(values: [Seconds; DEPARTURES]) {
+pub(crate) fn times(values: [Seconds; DEPARTURES]) {
     for i in 0..DEPARTURES {
         let time = values[i];
         io::write_all(1, b" ");
@@ -32,7 +32,7 @@ pub fn times(values: [Seconds; DEPARTURES]) {
     }
 }
 
-pub fn same_times(a: [Seconds; DEPARTURES], b: [Seconds; DEPARTURES]) -> bool {
+pub(crate) fn same_times(a: [Seconds; DEPARTURES], b: [Seconds; DEPARTURES]) -> bool {
     let mut same = true;
     for i in 0..DEPARTURES {
         let x = a[i];
@@ -42,7 +42,7 @@ pub fn same_times(a: [Seconds; DEPARTURES], b: [Seconds; DEPARTURES]) -> bool {
     same
 }
 
-pub fn refused(fault: Fault) {
+pub(crate) fn refused(fault: Fault) {
     io::write_all(1, b"refused ");
     number(fault.number() as usize);
     io::write_all(1, b" ");

@@ -8,7 +8,7 @@ use model::DEPARTURES;
 use model::Judged;
 
 // Two start times; the others are 0.
-pub fn from2(a: i64, b: i64) -> [Seconds; DEPARTURES] {
+pub(crate) fn from2(a: i64, b: i64) -> [Seconds; DEPARTURES] {
     let mut start = [Seconds(0); DEPARTURES];
     start[0] = Seconds(a);
     start[1] = Seconds(b);
@@ -23,7 +23,7 @@ fn refusal(judged: Judged) {
 }
 
 // A line for a run.
-pub fn run_line(case: Case, start: [Seconds; DEPARTURES], cycle: usize) {
+pub(crate) fn run_line(case: Case, start: [Seconds; DEPARTURES], cycle: usize) {
     case_text::table(case);
     io::write_all(1, b", run from");
     text::times(start);

@@ -22,8 +22,10 @@ use Rattle.model.specs.Search.{plan, planWith, lists, outcome}
 use Rattle.model.specs.Answers.{answered}
 use Rattle.model.specs.Faults.{network, beyond, callFault, tableFault, patternsFault, patternSize}
 use Rattle.model.specs.Demands.{InLimits}
-use Rattle.model.proofs.Listed.{Every, every-map}
-use Rattle.model.proofs.Limits.{InLimit, no-fault, rows-in, limits-of, room-of}
+use Rattle.model.specs.Lists.{Every}
+use Rattle.model.specs.Conditions.{InLimit}
+use Rattle.model.proofs.Listed.{every-map}
+use Rattle.model.proofs.Limits.{no-fault, rows-in, limits-of, room-of}
 use Rattle.model.proofs.Repeats.{repeat-sound}
 use Rattle.model.proofs.Searched as Q
 use Rattle.model.proofs.Searched.{plan-is}
@@ -118,13 +120,14 @@ module _ (c : Case) (capacity size : ℕ) (h : InLimits c capacity size) where
 
     -- and what the search over it answers is the outcome
     pub found : {p : Plan} {r : Answer} → Planned (plan (network c)) p
-        → Searched (networkIn (c .n) (p .cycles) (take (c .n * c .n) times) (take (patternSize (c .n)) start) (take (patternSize (c .n)) target)) capacity (p .cycles) (p .end) r
+        → Searched (networkIn (c .n) (p .cycles .0) (take (c .n * c .n) times) (take (patternSize (c .n)) start) (take (patternSize (c .n)) target)) capacity
+        (p .cycles .0) (p .end) r
         → r ≡ answered (outcome (network c) capacity)
     unfolding outcome network lists
     found pl s =
         let w = network c in
         let same = same-search w (plan w .cycles) capacity (plan w .cycles) 1 (lists w 0) (plan w .end) in
-        (rw (pl .cycles, e .times-are, e .start-is, e .target-is) at s) (plan w .end) (pl .end) ∙ ap answered same
+        (rw (pl .cycles, pl .end, e .times-are, e .start-is, e .target-is) at s) ∙ ap answered same
 
 -- the searched horizon is within the horizon
 pub plan-within : (w : Network) → plan w .cycles ≤ w .horizon

@@ -1,14 +1,14 @@
 // Verdicts: a case is judged, then searched, and the workspace is left all zero.
 ghost use mathlib.Core.Path.{_≡_};
 ghost use mathlib.Core.Bool.{_||_};
-ghost use Prim.Native.Nat.{suc, _+_, _*_, _≤_, _<_};
+ghost use Prim.Native.Nat.{_+_, _*_, _≤_, _<_};
 ghost use lib.ListN.{length, replicate};
 ghost use lib.IntN.{pos};
 ghost use Rattle.model.specs.Pattern.{onlyDifferences};
 ghost use Rattle.model.specs.Search.{planWith, outcome};
 ghost use Rattle.model.specs.Faults.{network, patternSize};
-ghost use Rattle.model.specs.Answers.{answered, answer, workspaceAfter, answerPacked, workspaceAfterPacked};
-ghost use Rattle.model.specs.Demands.{InLimits};
+ghost use Rattle.model.specs.Answers.{answered};
+ghost use Rattle.model.specs.Demands.{InLimits, Given, PackedGiven};
 ghost use Rattle.zones.specs.Memory.{boundsIn};
 ghost use Rattle.powers.specs.Readings.{repeatRead};
 ghost use Rattle.verdict.specs.Planning.{Planned, Counted};
@@ -18,11 +18,12 @@ use model::Case;
 use model::Judged;
 use model::Verdict;
 use powers::Repeated;
+use search::End;
 
-// How many cycles are searched, and the verdict of getting past them.
+// How many cycles are searched, and what getting past them means.
 struct Plan {
-    cycles: usize,
-    end: Verdict,
+    cycles: Cycle,
+    end: End,
 }
 
 fn plan_of(repeated: Repeated, differences: bool, horizon: Cycle) -> Plan
@@ -34,15 +35,15 @@ fn plan_of(repeated: Repeated, differences: bool, horizon: Cycle) -> Plan
             let cycles = again.q - 1;
             if cycles <= horizon.0 {
                 return Plan {
-                    cycles,
-                    end: Verdict::Never,
+                    cycles: Cycle(cycles),
+                    end: End::Never,
                 };
             }
         }
     }
     Plan {
-        cycles: horizon.0,
-        end: Verdict::Clear(horizon),
+        cycles: horizon,
+        end: End::Clear(horizon),
     }
 }
 
@@ -74,6 +75,7 @@ fn searched(case: Case, capacity: usize, work: &mut [i32]) -> Answer
     let free = differences(&start[..size], &target[..size], n);
     let repeated = powers::first_repeat(table, n);
     let plan = plan_of(repeated, free, case.horizon);
+    let cycles = plan.cycles;
     let end = plan.end;
     let answer = search::search(
         work,
@@ -82,7 +84,7 @@ fn searched(case: Case, capacity: usize, work: &mut [i32]) -> Answer
         &start[..size],
         &target[..size],
         n,
-        plan.cycles,
+        cycles,
         end,
     );
     encoded::clear(work);
@@ -91,7 +93,7 @@ fn searched(case: Case, capacity: usize, work: &mut [i32]) -> Answer
 
 // The verdict on an unpacked case, with Z and the workspace.
 pub fn verdict(case: Case, capacity: usize, work: &mut [i32]) -> Answer
-    ensures { λ r. ⌜ (r ≡ answer case capacity (length (now (work .entry)))) × (now (work .exit) ≡ workspaceAfter case capacity (now (work .entry))) ⌝ }
+    ensures { λ r. ⌜ Given case capacity (now (work .entry)) r (now (work .exit)) ⌝ }
 {
     let size = work.len();
     match judge::call_fault(case, capacity, size) {
@@ -102,7 +104,7 @@ pub fn verdict(case: Case, capacity: usize, work: &mut [i32]) -> Answer
 
 // The verdict on a packed case.
 pub fn verdict_packed(bytes: &[u8], capacity: usize, work: &mut [i32]) -> Answer
-    ensures { λ r. ⌜ (r ≡ answerPacked (now (bytes .entry)) capacity (length (now (work .entry)))) × (now (work .exit) ≡ workspaceAfterPacked (now (bytes .entry)) capacity (now (work .entry))) ⌝ }
+    ensures { λ r. ⌜ PackedGiven (now (bytes .entry)) capacity (now (work .entry)) r (now (work .exit)) ⌝ }
 {
     let read = packed::read(bytes);
     let judged = read.judged;

@@ -5,7 +5,7 @@ use mathlib.Core.Path.{_≡_, refl}
 use mathlib.Core.List.{List}
 use Rattle.model.specs.Network.{Time, time, secsOf}
 use Rattle.model.specs.Search.{chosen}
-use Rattle.model.proofs.Selections.{Chosen, clock, column}
+use Rattle.model.specs.Conditions.{Chosen, clock, column}
 
 module _ {n : ℕ} {a : List Time} where
   pub column-range : {i s : ℕ} → Chosen n a i s → 1 ≤ i → (1 ≤ s) × (s ≤ n)

@@ -8,13 +8,14 @@ use lib.IntN.{ℤ}
 use Rattle.model.specs.Matrix.{constrain}
 use Rattle.model.specs.Pattern.{patternConstraints}
 use Rattle.model.specs.Search.{attains, rowConstraints}
+use Rattle.model.specs.Conditions.{AllSmall}
 use Rattle.model.proofs.Listed.{every-map}
 use Rattle.model.proofs.Selections.{chosen-at}
 use Rattle.model.proofs.Rows.{of-row}
 use Rattle.model.proofs.Preimage.{row-fits}
 use Rattle.model.proofs.Patterns.{pattern-fits}
 use Rattle.model.proofs.Size.{small-mono}
-use Rattle.model.proofs.Sizes.{AllSmall, row-small, pattern-small}
+use Rattle.model.proofs.Sizes.{row-small, pattern-small}
 use Rattle.zones.specs.Memory.{boundsIn, timesIn}
 use Rattle.zones.specs.Conditions.{Ready, Left, RowReady, CommonReady}
 use Rattle.zones.specs.Inner.{Taking, Adds, images}

@@ -7,18 +7,17 @@ use lib.IntN.{ℤ, pos, negℤ, natAbs}
 use lib.ListN.{length, getD, set, drop, length-append, length-map, List·getD-append, List·getD-map}
 use Rattle.ints.specs.declared.Seconds.{Seconds}
 use Rattle.model.proofs.Stored.{padded-set}
-use Rattle.model.specs.Lists.{tabulate, padded}
+use Rattle.model.specs.Lists.{tabulate, padded, Every, done, both}
 use Rattle.model.specs.Bound as B
 use Rattle.model.specs.Bound.{Bound, most, plus, tighter}
 use Rattle.model.specs.Matrix.{Matrix, entry}
 use Rattle.model.specs.Network.{clocked}
 use Rattle.model.specs.Search.{tightest, above, below, leastOr, choices, pick}
 use Rattle.model.specs.Answers.{seconds, sevenTimes}
+use Rattle.model.specs.Conditions.{earliest, latest, Small, free}
 use Rattle.model.proofs.Bounds.{tighter-either}
-use Rattle.model.proofs.Listed.{Every, done, both, every-append, every-map, at-getD}
+use Rattle.model.proofs.Listed.{every-append, every-map, at-getD}
 use Rattle.model.proofs.Tabulated.{tabulate-ext}
-use Rattle.model.proofs.Attained.{earliest, latest}
-use Rattle.model.proofs.Size.{Small, free}
 use Rattle.zones.specs.Inner.{InMemory, values}
 use Rattle.zones.proofs.Toward.{from, from-next, from-end, from-first}
 

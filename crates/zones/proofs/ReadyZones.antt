@@ -9,12 +9,12 @@ use mathlib.Core.Bool.{Bool, true, false}
 use lib.IntN.{ℤ}
 use lib.ListN.{length}
 use Rattle.model.specs.Matrix.{Matrix, entry, everything, Constraint, constrain}
-use Rattle.model.proofs.Closed.{Closed}
-use Rattle.model.proofs.Listed.{Every}
-use Rattle.model.proofs.Zones.{Fits, tighten-closed}
+use Rattle.model.specs.Conditions.{Closed, Fits, Small, AllSmall}
+use Rattle.model.specs.Lists.{Every}
+use Rattle.model.proofs.Zones.{tighten-closed}
 use Rattle.model.proofs.Patterns.{closed-some}
-use Rattle.model.proofs.Size.{Small, small-mono}
-use Rattle.model.proofs.Sizes.{AllSmall, made-small, made-all, made-everything}
+use Rattle.model.proofs.Size.{small-mono}
+use Rattle.model.proofs.Sizes.{made-small, made-all, made-everything}
 use Rattle.zones.specs.Memory.{boundsIn}
 use Rattle.zones.specs.Conditions.{Limit, Ready, Left, gone, kept}
 use Rattle.zones.proofs.Places.{bounds-size}

@@ -10,10 +10,11 @@ use lib.IntN.{ℤ}
 use lib.ListN.{length}
 use Rattle.model.specs.Bound.{Bound, most, LeB, plus, tighter, negative}
 use Rattle.model.specs.Matrix.{Matrix, entry, relaxed, within, constrain}
+use Rattle.model.specs.Conditions.{Small}
 use Rattle.model.proofs.Bounds.{leB-refl, plus-mono, plus-zero, tighter-of-le, negative-false}
 use Rattle.model.proofs.Entries.{entry-matrix}
 use Rattle.model.proofs.Zones.{constrain-implied}
-use Rattle.model.proofs.Size.{Small, small-mono}
+use Rattle.model.proofs.Size.{small-mono}
 use Rattle.model.proofs.Sizes.{made-small, made-all}
 use Rattle.zones.specs.Memory.{boundsIn}
 use Rattle.zones.specs.Conditions.{gone, kept}

@@ -7,9 +7,9 @@ use mathlib.Core.Option.{Option, none, some}
 use mathlib.Core.Bool.{Bool, true, false, not}
 use borrow.Author.Tests.{not-true, not-false}
 use lib.IntN.{ℤ}
-use Rattle.model.specs.Lists.{tabulate}
+use Rattle.model.specs.Lists.{tabulate, Every, both}
 use Rattle.model.specs.Matrix.{Matrix, Constraint, constrain}
-use Rattle.model.proofs.Listed.{Every, both, every-split}
+use Rattle.model.proofs.Listed.{every-split}
 use Rattle.zones.specs.Memory.{boundsIn}
 use Rattle.zones.specs.Conditions.{Left, gone, kept}
 use Rattle.zones.specs.Inner.{Taking, Taken}

@@ -9,10 +9,7 @@ use lib.ListN.{length}
 use Rattle.model.specs.Bound.{most}
 use Rattle.model.specs.Matrix.{Matrix, entry}
 use Rattle.model.specs.Pattern.{pairBound}
-use Rattle.model.proofs.Cycles.{Column}
-use Rattle.model.proofs.Selections.{Cols}
-use Rattle.model.proofs.Size.{Small}
-use Rattle.model.proofs.Sizes.{Made, TimesSmall}
+use Rattle.model.specs.Conditions.{Column, Cols, Small, Made, TimesSmall}
 use Rattle.zones.specs.Memory.{boundsIn, timesIn}
 
 -- the most that a bound of a zone is in size

@@ -7,19 +7,14 @@ use mathlib.Core.Bool.{Bool, cond}
 use lib.IntN.{ℤ, pos, natAbs}
 use lib.ListN.{length, getD}
 use Rattle.ints.specs.declared.Seconds.{Seconds}
-use Rattle.model.specs.Lists.{tabulate}
+use Rattle.model.specs.Lists.{tabulate, Every}
 use Rattle.model.specs.Bound as B
 use Rattle.model.specs.Bound.{Bound, most, plus, tighter, sameZ}
 use Rattle.model.specs.Matrix.{Matrix, entry, Constraint, constrain}
 use Rattle.model.specs.Network.{Time, blank, secs, time, clocked}
 use Rattle.model.specs.Pattern.{pairBound}
 use Rattle.model.specs.Search.{chosen, attains, keeps, leastOr}
-use Rattle.model.proofs.Listed.{Every}
-use Rattle.model.proofs.Attained.{earliest, latest}
-use Rattle.model.proofs.Zones.{Fits}
-use Rattle.model.proofs.Selections.{Chosen, Cols}
-use Rattle.model.proofs.Size.{Small}
-use Rattle.model.proofs.Sizes.{AllSmall}
+use Rattle.model.specs.Conditions.{earliest, latest, Fits, Chosen, Cols, Small, AllSmall}
 use Rattle.zones.specs.declared.Entry.{Entry}
 use Rattle.zones.specs.declared.Entry.the-variants.{Blank, Secs}
 use Rattle.zones.specs.declared.Choice.{Choice}

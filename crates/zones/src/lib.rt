@@ -12,7 +12,7 @@ ghost use Rattle.model.specs.Pattern.{pairBound, patternConstraints};
 ghost use Rattle.model.specs.Network.{clocked};
 ghost use Rattle.model.specs.Search.{slack, attains, rowConstraints, leastOr, pick};
 ghost use Rattle.model.specs.Answers.{sevenTimes};
-ghost use Rattle.model.proofs.Size.{Small};
+ghost use Rattle.model.specs.Conditions.{Small};
 ghost use Rattle.zones.specs.Memory.{boundIn, boundsIn, timesIn};
 ghost use Rattle.zones.specs.Conditions.{Room, Left, RowReady, CommonReady, PickReady};
 ghost use Rattle.zones.specs.Inner.{bound, timeOf, Widest, Largest, Read, Place, Cell, BoundAt, PairCell, TimeCell, TimeAt, Adds, Added, RowFilled, across, RowIn};

@@ -15,7 +15,7 @@ same-length c = search needs
 returns : tie.Need-returns
 returns c =
     let v = c .before .before .before .before .before .verdict-packed .ensures in
-    (rw (v .0) at (c .tell .ensures), v .1)
+    (rw (v .answer) at (c .tell .ensures), v .workspace)
 
 pub tramcheck-verdict-spec : {M : Type 1} → statement M
 tramcheck-verdict-spec =

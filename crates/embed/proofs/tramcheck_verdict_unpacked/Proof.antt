@@ -19,7 +19,7 @@ returns : tie.Need-returns
 returns c =
     let v = c .before .before .before .before .before in
     let k = v .before .before .case-in .ensures in
-    (rw (v .verdict .ensures .0, k) at (c .tell .ensures), rw k at (v .verdict .ensures .1))
+    (rw (v .verdict .ensures .answer, k) at (c .tell .ensures), rw k at (v .verdict .ensures .workspace))
 
 pub tramcheck-verdict-unpacked-spec : {M : Type 1} → statement M
 tramcheck-verdict-unpacked-spec =

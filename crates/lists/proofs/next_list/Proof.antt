@@ -131,9 +131,17 @@ same-length-2 c =
 returns : tie.Need-returns Inv-loop μ-loop
 returns c =
     let p = c .before .before .before in
+    let b = p .before .before .before .before .before .before .before in
+    let a = b .args in
     let l = p .before .before .before .before .before .before .loop in
-    let a = p .before .before .before .before .before .before .before .args in
-    rw (put-is (a .goal) (l .work) (p .pull-back .last .0)) (pulling-full (a .n) (a .capacity) (a .count) (a .source) (a .goal) (a .times .now) (a .work .now) (l .inv .0) (l .inv .1) (p .before .before .before .before .before .loop-test .taken) (p .pull-back .last .0) (p .pull-back .result) (same p) (held p) (c .if1 .taken), front-is (a .n) (a .capacity) (a .count) (a .source) (a .goal) (a .times .now) (a .work .now) (l .inv .0) (l .inv .1) (p .before .before .before .before .before .loop-test .taken) (p .pull-back .last .0) (p .pull-back .result) (same p) (held p))
+    let more = p .before .before .before .before .before .loop-test .taken in
+    let out = p .pull-back .last .0 in
+    let r = p .pull-back .result in
+    rw (put-is (a .goal) (l .work) out) (record {
+      list = pulling-full (a .n) (a .capacity) (a .count) (a .source) (a .goal) (a .times .now) (a .work .now) (l .inv .0) (l .inv .1) more out r (same p) (held p) (c .if1 .taken);
+      front = front-is (a .n) (a .capacity) (a .count) (a .source) (a .goal) (a .times .now) (a .work .now) (l .inv .0) (l .inv .1) more out r (same p) (held p);
+      seen-size = same-length-2 c;
+    })
 
 add-k : tie.Need-add-k Inv-loop μ-loop
 add-k c = omega arith
@@ -159,7 +167,11 @@ returns-2 c =
     let b = c .before .before in
     let a = b .args in
     let v = c .before .loop .inv in
-    (pulling-done (a .n) (a .capacity) (a .count) (a .source) (a .goal) (a .times .now) (a .work .now) (v .0) (v .1) (c .loop-test .left), v .1 .front)
+    record {
+      list = pulling-done (a .n) (a .capacity) (a .count) (a .source) (a .goal) (a .times .now) (a .work .now) (v .0) (v .1) (c .loop-test .left);
+      front = v .1 .front;
+      seen-size = same-length-4 c;
+    }
 
 pub next-list-spec : {M : Type 1} → statement M
 next-list-spec =

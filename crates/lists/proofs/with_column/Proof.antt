@@ -9,7 +9,7 @@ use lib.Seq.{length-take-le, take-at, length-front}
 use mir.Syntax.{w32}
 use mir.ValLaws.{toZ-ofZ}
 use Rattle.model.specs.Bound.{sameZ}
-use Rattle.model.proofs.Cycles.{Column}
+use Rattle.model.specs.Conditions.{Column}
 use Rattle.zones.specs.Memory.{boundsIn, timesIn}
 use Rattle.zones.specs.Conditions.{gone}
 use Rattle.lists.specs.Lists.{partIn}

@@ -15,7 +15,7 @@ use Rattle.report.proofs.report.Tie as tie
 
 -- the answer, with the length of the workspace as a number
 answer-is : (c : tie.After-verdict-packed) → c .verdict-packed .result ≡ answerPacked (c .before .before .before .args .bytes .now) 128 16384
-answer-is c = c .verdict-packed .ensures .0 ∙ ap (answerPacked _ 128) (length-replicate 16384 (pos 0))
+answer-is c = c .verdict-packed .ensures .answer ∙ ap (answerPacked _ 128) (length-replicate 16384 (pos 0))
 
 slice-aggregate-verdict-packed : tie.Need-slice-aggregate-verdict-packed
 slice-aggregate-verdict-packed c = search needs

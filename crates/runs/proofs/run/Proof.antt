@@ -11,9 +11,10 @@ use Rattle.model.specs.declared.Judged.{Judged}
 use Rattle.model.specs.Network.{cycle, cycles}
 use Rattle.model.specs.Faults.{network}
 use Rattle.model.specs.Answers.{sevenTimes}
+use Rattle.model.specs.Conditions.{TableLimits}
 use Rattle.model.proofs.Listed.{map-every}
 use Rattle.model.proofs.Cycles.{length-cycles}
-use Rattle.model.proofs.Limits.{TableLimits, RunLimits, run-limits}
+use Rattle.model.proofs.Limits.{RunLimits, run-limits}
 use Rattle.judge.proofs.Laws.{refused-for, accepted}
 use Rattle.runs.specs.Steps.{tableOf, timesOf}
 use Rattle.runs.proofs.Growth.{clocked-small, cycles-small}

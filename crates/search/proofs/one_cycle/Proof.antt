@@ -24,12 +24,12 @@ same-length-2 c = search needs
 returns : tie.Need-returns
 returns c =
     let l = c .before .before .before .before .before in
-    rw (c .settled .ensures, c .before .plain .ensures) (full (held-full (l .next-list .ensures .0) (c .before .before .if1 .taken)))
+    rw (c .settled .ensures, c .before .plain .ensures) (full (held-full (l .next-list .ensures .list) (c .before .before .if1 .taken)))
 
 first-common-requires : tie.Need-first-common-requires
 first-common-requires c κs =
     let l = c .before .before .before .before in
-    meeting (l .before .before .before .pre .0) (l .next-list .result) (l .next-list .last .0) (l .next-list .kept .0) (c .before .if1 .left) (l .next-list .ensures .0)
+    meeting (l .before .before .before .pre .0) (l .next-list .result) (l .next-list .last .0) (l .next-list .kept .0) (c .before .if1 .left) (l .next-list .ensures .list)
 
 settled-requires-2 : tie.Need-settled-requires-2
 settled-requires-2 c κs = search needs
@@ -46,7 +46,7 @@ returns-2 c =
     let f = d .before in
     let l = f .before .before .before .before .before in
     let left = f .before .before .if1 .left in
-    let held = l .next-list .ensures .0 in
+    let held = l .next-list .ensures .list in
     let (z, e, s) = found-some (l .before .before .before .args .n) _ (rw (held-list held left .1) at (f .first-common .ensures)) (d .if2 .taken) in
     rw (c .settled2 .ensures, s) (met (held-open held left) e)
 
@@ -64,7 +64,7 @@ returns-3 c =
     let f = c .before .before in
     let l = f .before .before .before .before .before in
     let left = f .before .before .if1 .left in
-    let held = l .next-list .ensures .0 in
+    let held = l .next-list .ensures .list in
     let (n, is) = held-list held left in
     let e = found-none (l .before .before .before .args .n) _ (rw is at (f .first-common .ensures)) (c .before .if2 .left) in
     rw (c .plain2 .ensures, n) (on (held-open held left) e (rw n at is))

@@ -15,11 +15,11 @@ use Rattle.search.proofs.search.Statement.{statement}
 use Rattle.search.proofs.search.Tie as tie
 
 abbrev Inv-loop : tie.InvT-loop
-Inv-loop work₀ capacity times start target n cycles end half count₀ seen₀ source₀ k₀ work count seen source k =
-    (q : Searchable n capacity cycles work₀ times start target) × Reached q work count source k × (half ≡ capacity * ((n + 1) * (n + 1))) × (length seen ≡ 65536)
+Inv-loop work₀ capacity times start target n end last half count₀ seen₀ source₀ k₀ work count seen source k =
+    (q : Searchable n capacity last work₀ times start target) × Reached q work count source k × (half ≡ capacity * ((n + 1) * (n + 1))) × (length seen ≡ 65536)
 
 abbrev μ-loop : tie.MeasureT-loop
-μ-loop work₀ capacity times start target n cycles end half count₀ seen₀ source₀ k₀ work count seen source k = cycles - k
+μ-loop work₀ capacity times start target n end last half count₀ seen₀ source₀ k₀ work count seen source k = last - k
 
 add-half : tie.Need-add-half Inv-loop μ-loop
 add-half c = search needs
@@ -76,8 +76,8 @@ loop-again c =
     let r = onward (l .loop .inv .0) (l .loop .inv .1) (o .before .before .before .loop-test .taken) (rw (add-one (l .loop .k)) at (o .one-cycle .ensures)) (c .if1 .left) (o .one-cycle .kept .0) in
     (l .loop .inv .0, rw (add-one (l .loop .k)) r, refl, o .one-cycle .kept .1 .1 .1 .1 .1 .1 .1 .0 ∙ l .loop .inv .3)
 
-plain-requires : tie.Need-plain-requires Inv-loop μ-loop
-plain-requires c κs = search needs
+past-requires : tie.Need-past-requires Inv-loop μ-loop
+past-requires c κs = search needs
 
 same-length-2 : tie.Need-same-length-2 Inv-loop μ-loop
 same-length-2 c = let l = c .before .before in l .loop .inv .1 .long ∙ l .before .before .first-list .kept .0
@@ -85,7 +85,7 @@ same-length-2 c = let l = c .before .before in l .loop .inv .1 .long ∙ l .befo
 returns-2 : tie.Need-returns-2 Inv-loop μ-loop
 returns-2 c =
     let l = c .before .before in
-    λ e f. c .plain .ensures ∙ sym f ∙ ap answered (sym (past (l .loop .inv .0) (l .loop .k) (l .loop .inv .1) (c .before .loop-test .left) e))
+    c .past .ensures ∙ ap answered (sym (past (l .loop .inv .0) (l .loop .k) (l .loop .inv .1) (c .before .loop-test .left) _))
 
 pub search-spec : {M : Type 1} → statement M
 search-spec =
@@ -107,6 +107,6 @@ search-spec =
     returns
     loop-less
     loop-again
-    plain-requires
+    past-requires
     same-length-2
     returns-2)

@@ -110,31 +110,31 @@ plan-of-requires c κs =
     (λ again e. counted w (a .args .capacity) _ (a .pre) again (sym (c .first-repeat .ensures ∙ of-case w) ∙ e), limits-of w (a .args .capacity) _ (a .pre) .few-cycles)
 
 array-share-prefix-times : tie.Need-array-share-prefix-times
-array-share-prefix-times c = times-room (c .before .before .before .before .before .before .before .before .before .before)
+array-share-prefix-times c = times-room (c .before .before .before .before .before .before .before .before .before .before .before)
 
 slice-aggregate-search : tie.Need-slice-aggregate-search
-slice-aggregate-search c = let t = c .before .before .before .before .before .before .before .before .before .before .before in sym (length-take-le _ (t .times-in .result) (times-room t))
+slice-aggregate-search c = let t = c .before .before .before .before .before .before .before .before .before .before .before .before in sym (length-take-le _ (t .times-in .result) (times-room t))
 
 array-share-prefix-start-2 : tie.Need-array-share-prefix-start-2
-array-share-prefix-start-2 c = start-room (c .before .before .before .before .before .before .before)
+array-share-prefix-start-2 c = start-room (c .before .before .before .before .before .before .before .before)
 
 slice-aggregate-search-2 : tie.Need-slice-aggregate-search-2
-slice-aggregate-search-2 c = sym (start-fits (c .before .before .before .before .before .before .before .before))
+slice-aggregate-search-2 c = sym (start-fits (c .before .before .before .before .before .before .before .before .before))
 
 array-share-prefix-target-2 : tie.Need-array-share-prefix-target-2
-array-share-prefix-target-2 c = target-room (c .before .before .before .before .before .before .before .before)
+array-share-prefix-target-2 c = target-room (c .before .before .before .before .before .before .before .before .before)
 
 slice-aggregate-search-3 : tie.Need-slice-aggregate-search-3
-slice-aggregate-search-3 c = sym (target-fits (c .before .before .before .before .before .before .before .before .before))
+slice-aggregate-search-3 c = sym (target-fits (c .before .before .before .before .before .before .before .before .before .before))
 
 search-requires : tie.Need-search-requires
 unfolding network
 search-requires c κs =
-    let p = c .before .before .before .before in
+    let p = c .before .before .before .before .before in
     let b = p .before .before .before .before .before in
     let a = start-of b in
     let w = a .args .case in
-    searchable w (a .args .capacity) _ (a .pre) (in-memory b) _ refl (p .plan-of .result .cycles) (omega (arith, plan-made p .cycles, plan-within (network w)))
+    searchable w (a .args .capacity) _ (a .pre) (in-memory b) _ refl (p .plan-of .result .cycles .0) (omega (arith, plan-made p .cycles, plan-within (network w)))
 
 clear-requires : tie.Need-clear-requires
 clear-requires c κs = search needs
@@ -146,7 +146,7 @@ returns : tie.Need-returns
 returns c =
     let l = c .before in
     let s = l .before .before .before in
-    let p = s .before .before .before .before .before in
+    let p = s .before .before .before .before .before .before in
     let b = p .before .before .before .before .before in
     let a = start-of b in (
       found (a .args .case) (a .args .capacity) _ (a .pre) (in-memory b) (plan-made p) (s .search .ensures),

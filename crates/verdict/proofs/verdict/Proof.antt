@@ -2,6 +2,7 @@
 use mathlib.Core.Path.{_∙_}
 use Rattle.judge.proofs.Laws.{accepted, refused-for}
 use Rattle.verdict.proofs.Answered.{answer-refused, answer-found}
+use Rattle.verdict.proofs.Demanded.{given}
 use borrow.Author.Needs.{needs}
 use Rattle.verdict.proofs.verdict.Statement.{statement}
 use Rattle.verdict.proofs.verdict.Tie as tie
@@ -27,7 +28,7 @@ returns c =
     let f = d .before .before in
     let a = f .before .args in
     let (r, w) = answer-refused (a .case) (a .capacity) (a .work .now) (refused-for _ (f .call-fault .ensures) (d .fault .given .1)) in
-    (c .plain .ensures ∙ r, w)
+    given (a .capacity) (a .work .now) (a .case) (c .plain .ensures ∙ r) w
 
 same-length : tie.Need-same-length
 same-length c = search needs
@@ -39,7 +40,7 @@ returns-2 c =
     let f = d .before .before in
     let a = f .before .args in
     let (r, w) = answer-found (a .case) (a .capacity) (a .work .now) (accepted _ (f .call-fault .ensures) (d .enum-told .given .1)) in
-    (s .searched .ensures .0 ∙ r, s .searched .ensures .1 ∙ w)
+    given (a .capacity) (a .work .now) (a .case) (s .searched .ensures .0 ∙ r) (s .searched .ensures .1 ∙ w)
 
 pub verdict-spec : {M : Type 1} → statement M
 verdict-spec =

@@ -1,6 +1,7 @@
 -- A packed case is read, then answered as the case that it holds.
 use mathlib.Core.Path.{_∙_}
 use Rattle.verdict.proofs.Answered.{packed-refused, packed-read}
+use Rattle.verdict.proofs.Demanded.{packed-given}
 use borrow.Author.Needs.{needs}
 use Rattle.verdict.proofs.verdict_packed.Statement.{statement}
 use Rattle.verdict.proofs.verdict_packed.Tie as tie
@@ -26,7 +27,7 @@ returns c =
     let f = d .before .before in
     let a = f .before .before .args in
     let (r, w) = packed-refused (a .bytes .now) (a .capacity) (a .work .now) (f .read .ensures) (d .judged .given .1) in
-    (c .plain .ensures ∙ r, w)
+    packed-given (a .capacity) (a .work .now) (a .bytes .now) (c .plain .ensures ∙ r) w
 
 same-length : tie.Need-same-length
 same-length c = search needs
@@ -38,7 +39,7 @@ returns-2 c =
     let f = d .before .before in
     let a = f .before .before .args in
     let (r, w) = packed-read (a .bytes .now) (a .capacity) (a .work .now) (f .read .ensures) (d .enum-told .given .1) in
-    (v .verdict .ensures .0 ∙ r, v .verdict .ensures .1 ∙ w)
+    packed-given (a .capacity) (a .work .now) (a .bytes .now) (v .verdict .ensures .answer ∙ r) (v .verdict .ensures .workspace ∙ w)
 
 pub verdict-packed-spec : {M : Type 1} → statement M
 verdict-packed-spec =

@@ -3,7 +3,7 @@ use borrow.Author.Tests.{eq-eqb, ne-eqb}
 use native.Mathlib.Omega.{arith}
 use lib.IntN.{pos}
 use Rattle.model.specs.Matrix.{diagonal}
-use Rattle.model.proofs.Size.{free, sized}
+use Rattle.model.specs.Conditions.{free, sized}
 use Rattle.zones.proofs.diagonal.Statement.{statement}
 use Rattle.zones.proofs.diagonal.Tie as tie
 

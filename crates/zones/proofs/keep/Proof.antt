@@ -6,7 +6,8 @@ use lib.IntN.{ℤ, natAbs, _-ℤ_}
 use Rattle.model.specs.Bound.{most, plus}
 use Rattle.model.specs.Matrix.{entry, constrain, within}
 use Rattle.model.specs.Search.{chosen, keeps}
-use Rattle.model.proofs.Size.{sized, small-mono, small-sum, minus-small}
+use Rattle.model.specs.Conditions.{sized}
+use Rattle.model.proofs.Size.{small-mono, small-sum, minus-small}
 use Rattle.zones.specs.declared.Choice.{Choice}
 use Rattle.zones.specs.Memory.{boundsIn, timesIn}
 use Rattle.zones.specs.Conditions.{kept}

@@ -7,7 +7,8 @@ use lib.IntN.{natAbs, negℤ}
 use Rattle.model.specs.Bound.{Bound, most, plus}
 use Rattle.model.specs.Network.{clocked}
 use Rattle.model.specs.Search.{leastOr}
-use Rattle.model.proofs.Size.{Small, small-mono, term-small, neg-small, least-small}
+use Rattle.model.specs.Conditions.{Small}
+use Rattle.model.proofs.Size.{small-mono, term-small, neg-small, least-small}
 use Rattle.zones.specs.Memory.{boundsIn}
 use Rattle.zones.specs.Inner.{bound, values, InMemory, Widest}
 use Rattle.zones.proofs.Numbers.{wide}

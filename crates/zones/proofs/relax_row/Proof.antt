@@ -7,8 +7,9 @@ use mathlib.Core.Path.{_≡_, sym, ap, ap₂, _∙_}
 use lib.ListN.{length}
 use Rattle.model.specs.Bound.{Bound, any, plus, tighter}
 use Rattle.model.specs.Matrix.{entry}
+use Rattle.model.specs.Conditions.{Small}
 use Rattle.model.proofs.Bounds.{tighter-of-le}
-use Rattle.model.proofs.Size.{Small, small-mono, small-sum}
+use Rattle.model.proofs.Size.{small-mono, small-sum}
 use Rattle.zones.specs.Memory.{boundsIn}
 use Rattle.zones.specs.Inner.{bound, across, RowFilled, InMemory, Widest}
 use Rattle.zones.proofs.Places.{bounds-size}

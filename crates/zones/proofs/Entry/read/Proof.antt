@@ -4,7 +4,7 @@ use mathlib.Core.Path.{_∙_, ap}
 use lib.IntN.{ℤ}
 use mir.Syntax.{w32}
 use mir.ValLaws.{toZ-ofZ}
-use Rattle.model.proofs.Size.{free, sized}
+use Rattle.model.specs.Conditions.{free, sized}
 use Rattle.zones.specs.declared.Entry.the-variants.{Secs}
 use Rattle.zones.proofs.Numbers.{blank-read, secs-read, read-small}
 use Rattle.zones.proofs.Entry.read.Statement.{statement}
