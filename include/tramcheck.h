@@ -6,9 +6,10 @@
  * 384 KiB of the stack.
  *
  * Each function returns what the verdict is and sets
- *   *fault    the fault's number, 1 to 13, where it is TRAMCHECK_REFUSED, else 0;
+ *   *fault    the fault's number, 1 to 14, where it is TRAMCHECK_REFUSED, else 0;
  *   *value    k for TRAMCHECK_REACHED, N for TRAMCHECK_CLEAR, 0 for TRAMCHECK_NEVER, what the fault returns for TRAMCHECK_REFUSED:
- *             its place, the cycle of 11 (table full) and 12 (bound too large), the departure of 13, or 0;
+ *             its place, the cycle of 11 (table full) and 12 (bound too large), the departure of 13, the bytes needed of 14, or 0;
+ *             the number of bytes for TRAMCHECK_DONE, which the writer and the reader return;
  *   the seven times  the start that reaches the target, departures 1 to n first; 0 beyond n and for every other verdict.
  */
 #ifndef TRAMCHECK_H
@@ -25,7 +26,8 @@ enum {
     TRAMCHECK_REFUSED = 0,
     TRAMCHECK_REACHED = 1,
     TRAMCHECK_CLEAR = 2,
-    TRAMCHECK_NEVER = 3
+    TRAMCHECK_NEVER = 3,
+    TRAMCHECK_DONE = 4
 };
 
 /* The most departures. */
@@ -56,6 +58,18 @@ uint32_t tramcheck_verdict_unpacked(size_t n, size_t horizon, const uint8_t pres
 uint32_t tramcheck_run(size_t n, const uint8_t present[TRAMCHECK_ENTRIES], const int64_t values[TRAMCHECK_ENTRIES],
                        const int64_t start[TRAMCHECK_DEPARTURES], size_t cycle, size_t *fault, size_t *value,
                        int64_t times[TRAMCHECK_DEPARTURES]);
+
+/* Writes an unpacked case in packed form to the front of out; the bytes behind stay as they were. Returns TRAMCHECK_DONE, with the number of bytes,
+ * at most TRAMCHECK_BYTES, in *value, or TRAMCHECK_REFUSED for faults 2 to 6 and then 14, an out that is too short; a refusal leaves all of out as it
+ * was. With an out_length of 0, fault 14 tells the bytes needed. */
+#define TRAMCHECK_BYTES 426
+uint32_t tramcheck_write(size_t n, size_t horizon, const uint8_t present[TRAMCHECK_ENTRIES], const int64_t values[TRAMCHECK_ENTRIES],
+                         uint8_t *out, size_t out_length, size_t *fault, size_t *value);
+
+/* Reads a packed case and hands it back unpacked: 1 in present where an entry is there, else 0, and 0 in values where there is none. Returns
+ * TRAMCHECK_DONE, with the number of bytes in *value, or TRAMCHECK_REFUSED, and then n, the horizon and every entry are 0. */
+uint32_t tramcheck_read(const uint8_t *bytes, size_t length, size_t *n, size_t *horizon, uint8_t present[TRAMCHECK_ENTRIES],
+                        int64_t values[TRAMCHECK_ENTRIES], size_t *fault, size_t *value);
 
 #ifdef __cplusplus
 }

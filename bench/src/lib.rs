@@ -5,6 +5,7 @@ pub mod families;
 pub mod measure;
 pub mod network;
 pub mod one_by_one;
+pub mod packing;
 pub mod rows;
 pub mod search;
 pub mod slowest;

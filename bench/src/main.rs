@@ -1,14 +1,15 @@
 //! Runs the benchmark:
 //!
-//!     bench                      all families, dropping, and z3
+//!     bench                      all families, dropping, packing, and z3
 //!     bench WORD...              families whose names have one of the words
 //!     bench dropping             what dropping equal sets saves
+//!     bench packing              writing and reading packed cases
 //!     bench z3                   the comparison with z3
 //!     bench slowest SEED STEPS   a search for a slow case
 //!     bench case HEX             one packed case
 
 use bench::families::{self, Family};
-use bench::{dropping, slowest, table, z3};
+use bench::{dropping, packing, slowest, table, z3};
 use std::env;
 use std::process::ExitCode;
 
@@ -30,9 +31,14 @@ fn run(words: &[&str]) -> Result<(), String> {
             dropping::print();
             Ok(())
         }
+        ["packing"] => {
+            packing::print(&families::all());
+            Ok(())
+        }
         [] => {
             table::print(&families::all());
             dropping::print();
+            packing::print(&families::all());
             solver()
         }
         _ => {

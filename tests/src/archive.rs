@@ -1,9 +1,9 @@
-//! The archive's three functions behind safe ones. A product that embeds the
-//! archive can copy this file.
+//! The archive's functions behind safe ones. A product that embeds the archive
+//! can copy this file.
 
-use crate::case::{Case, Entries, Times};
+use crate::case::{Case, Entries, Times, ENTRIES};
 
-/// A fault's number, 1 to 13, and what is returned with it.
+/// A fault's number, 1 to 14, and what is returned with it.
 #[derive(Clone, Copy, Debug, PartialEq, Eq)]
 pub struct Fault {
     pub number: usize,
@@ -31,6 +31,16 @@ pub struct Answer {
 pub struct Run {
     pub judged: Result<(), Fault>,
     pub times: Times,
+}
+
+/// A packed case that was read: the bytes read or the fault, and the case, which
+/// is empty if refused.
+#[derive(Clone, Debug, PartialEq, Eq)]
+pub struct Reading {
+    pub judged: Result<usize, Fault>,
+    pub n: usize,
+    pub horizon: usize,
+    pub entries: Entries,
 }
 
 /// Numbers that stand for no outcome; the archive never returns them.
@@ -74,6 +84,26 @@ extern "C" {
         value: *mut usize,
         times: *mut i64,
     ) -> u32;
+    fn tramcheck_write(
+        n: usize,
+        horizon: usize,
+        present: *const u8,
+        values: *const i64,
+        out: *mut u8,
+        out_length: usize,
+        fault: *mut usize,
+        value: *mut usize,
+    ) -> u32;
+    fn tramcheck_read(
+        bytes: *const u8,
+        length: usize,
+        n: *mut usize,
+        horizon: *mut usize,
+        present: *mut u8,
+        values: *mut i64,
+        fault: *mut usize,
+        value: *mut usize,
+    ) -> u32;
 }
 
 /// Where the archive writes its results. Every call writes all of them; the
@@ -115,6 +145,15 @@ impl Results {
         };
         let times = self.times;
         Ok(Run { judged, times })
+    }
+
+    /// The number of bytes written or read, or the fault.
+    fn bytes(&self, kind: u32) -> Result<Result<usize, Fault>, Unknown> {
+        match (kind, self.fault, self.value) {
+            (0, number @ (1..=8 | 14), returned) => Ok(Err(Fault { number, returned })),
+            (4, 0, count) => Ok(Ok(count)),
+            (kind, fault, value) => Err(Unknown { kind, fault, value }),
+        }
     }
 }
 
@@ -198,4 +237,64 @@ pub fn run_entries(
         )
     };
     results.run(kind, cycle)
+}
+
+/// Writes a case in packed form to the front of `out`: how many bytes, or the
+/// fault. With an `out` of length 0 fault 14 tells how many are needed.
+pub fn write(case: &Case, out: &mut [u8]) -> Result<Result<usize, Fault>, Unknown> {
+    write_entries(case.n, case.horizon, &case.entries(), out)
+}
+
+/// The same for a case in the layout that the archive reads.
+pub fn write_entries(
+    n: usize,
+    horizon: usize,
+    entries: &Entries,
+    out: &mut [u8],
+) -> Result<Result<usize, Fault>, Unknown> {
+    let mut results = Results::new();
+    // The pointers are good as in `verdict`; both arrays have 161 places.
+    let kind = unsafe {
+        tramcheck_write(
+            n,
+            horizon,
+            entries.present.as_ptr(),
+            entries.values.as_ptr(),
+            out.as_mut_ptr(),
+            out.len(),
+            &mut results.fault,
+            &mut results.value,
+        )
+    };
+    results.bytes(kind)
+}
+
+/// Reads a packed case.
+pub fn read(bytes: &[u8]) -> Result<Reading, Unknown> {
+    let mut results = Results::new();
+    let (mut n, mut horizon) = (usize::MAX, usize::MAX);
+    let mut entries = Entries {
+        present: [u8::MAX; ENTRIES],
+        values: [i64::MIN; ENTRIES],
+    };
+    // The pointers are good as in `verdict`; both arrays have 161 places.
+    let kind = unsafe {
+        tramcheck_read(
+            bytes.as_ptr(),
+            bytes.len(),
+            &mut n,
+            &mut horizon,
+            entries.present.as_mut_ptr(),
+            entries.values.as_mut_ptr(),
+            &mut results.fault,
+            &mut results.value,
+        )
+    };
+    let judged = results.bytes(kind)?;
+    Ok(Reading {
+        judged,
+        n,
+        horizon,
+        entries,
+    })
 }

@@ -1,4 +1,4 @@
-/* Calls the archive's three functions from C and prints what they return. */
+/* Calls the archive's functions from C and prints what they return. */
 
 #include <stdio.h>
 #include <string.h>
@@ -74,5 +74,22 @@ int main(void)
     kind = tramcheck_run(1, present, values, start, 65, &fault, &value, times);
     print_line(kind, fault, value, times);
     printf("%d\n", kind == TRAMCHECK_REFUSED);
+
+    /* The first case read, written to an output with a byte more, and to one
+     * that is too short. */
+    size_t n, horizon;
+    uint8_t out[5] = {1, 2, 3, 4, 5};
+    kind = tramcheck_read(bytes, sizeof bytes, &n, &horizon, present, values,
+                          &fault, &value);
+    printf("%u %zu %zu: %zu %zu, %u %lld\n", (unsigned)kind, fault, value, n,
+           horizon, present[0], (long long)values[0]);
+    kind = tramcheck_write(n, horizon, present, values, out, sizeof out,
+                           &fault, &value);
+    printf("%u %zu %zu: %d %u\n", (unsigned)kind, fault, value,
+           memcmp(out, bytes, sizeof bytes), out[4]);
+    kind = tramcheck_write(n, horizon, present, values, out, 3, &fault,
+                           &value);
+    printf("%u %zu %zu\n", (unsigned)kind, fault, value);
+    printf("%d\n", TRAMCHECK_DONE);
     return 0;
 }

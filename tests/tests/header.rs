@@ -45,6 +45,10 @@ fn a_c_program_embeds_the_archive() {
 1 0 10 593 0 0 0 0 0 0
 0 3 0 0 0 0 0 0 0 0
 1
+4 0 4: 1 1, 1 60
+4 0 4: 0 5
+0 14 4
+4
 ";
     assert_eq!(String::from_utf8_lossy(&output.stdout), stated);
 }

@@ -2,10 +2,10 @@
 use Prim.Native.Nat.{ℕ, _+_, _-_, _≤_, _<_}
 use native.Mathlib.Numerals.{add-one}
 use native.Mathlib.Omega.{arith}
-use mathlib.Core.Path.{_≡_, refl, ap, _∙_}
+use mathlib.Core.Path.{_≡_, refl, sym, ap, _∙_}
 use mathlib.Core.List.{List, [], _∷_, _++_, map, map-append}
-use lib.ListN.{length, take, getD, set, replicate, length-set}
-use lib.Seq.{take-suc, take-suc-set, take-all}
+use lib.ListN.{length, take, getD, set, replicate, length-set, length-append, List·getD-append}
+use lib.Seq.{take-suc, take-suc-set, take-all, getD-append-add}
 use Rattle.model.specs.declared.Slot.{Slot}
 use Rattle.model.specs.Lists.{tabulate, padded}
 use Rattle.model.specs.Faults.{nothing}
@@ -56,3 +56,18 @@ module _ (size first : ℕ) (f : ℕ → Slot) where
 
   pub filled-all : (slots : List Slot) (k : ℕ) → Filled size first f slots k → size ≤ k → slots ≡ padded nothing size (tabulate size first f)
   filled-all slots k c h = let e : k ≡ size = omega (arith, c .count) in rw e at (c .holds)
+
+-- three lists, one after the other
+module _ {X : Type 0} (ts ss gs : List X) (d : X) (k : ℕ) where
+  pub in-first : k < length ts → getD ts k d ≡ getD ((ts ++ ss) ++ gs) k d
+  in-first h = sym (List·getD-append (ts ++ ss) gs d k (omega (arith, length-append ts ss)) ∙ List·getD-append ts ss d k h)
+
+  pub in-second : length ts ≤ k → k < length ts + length ss → getD ss (k - length ts) d ≡ getD ((ts ++ ss) ++ gs) k d
+  in-second l h =
+      let e : length ts + (k - length ts) ≡ k = omega arith in
+      sym (List·getD-append (ts ++ ss) gs d k (omega (arith, length-append ts ss)) ∙ (rw e at (getD-append-add ts ss (k - length ts) d)))
+
+  pub in-third : length ts + length ss ≤ k → getD gs (k - (length ts + length ss)) d ≡ getD ((ts ++ ss) ++ gs) k d
+  in-third l =
+      let e : length (ts ++ ss) + (k - (length ts + length ss)) ≡ k = omega (arith, length-append ts ss) in
+      sym (rw e at (getD-append-add (ts ++ ss) gs (k - (length ts + length ss)) d))

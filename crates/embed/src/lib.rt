@@ -1,11 +1,13 @@
 // The library for C and Rust: verdicts and runs on numbers and lent arrays. No function asks anything of its caller.
 ghost use mathlib.Core.Path.{_≡_};
+ghost use mathlib.Core.List.{_++_};
 ghost use Prim.Native.Nat.{_+_, _≤_, _<_};
 ghost use lib.ListN.{length};
 ghost use Rattle.model.specs.Lists.{padded, tabulate};
 ghost use Rattle.model.specs.Faults.{nothing};
-ghost use Rattle.model.specs.Answers.{answer, workspaceAfter, answerPacked, workspaceAfterPacked, run};
-ghost use Rattle.embed.specs.Numbers.{Told, runVerdict, runAnswer, plainTimes, timesIn, slotAt, caseIn};
+ghost use Rattle.model.specs.Packed.{parse};
+ghost use Rattle.model.specs.Answers.{answer, workspaceAfter, answerPacked, workspaceAfterPacked, unpacked, run};
+ghost use Rattle.embed.specs.Numbers.{Handed, Told, writtenNumbers, withCount, runVerdict, runAnswer, plainTimes, timesIn, slotAt, caseIn, EntriesHanded, CaseHanded, WrittenHanded};
 use ints::Cycle;
 use ints::Seconds;
 use model::Answer;
@@ -16,6 +18,7 @@ use model::Judged;
 use model::Slot;
 use model::TIMES;
 use model::Verdict;
+use model::Written;
 
 // The entries of an unpacked case: the table's, then those of the start and of the target pattern.
 pub const ENTRIES: usize = 161;
@@ -30,6 +33,12 @@ const NOTHING: Slot = Slot {
     has: false,
     value: ZERO,
 };
+
+// The entries of an unpacked case, 1 in present where one is there, else 0.
+struct Entries {
+    present: [u8; ENTRIES],
+    values: [i64; ENTRIES],
+}
 
 fn plain_times(times: [Seconds; DEPARTURES]) -> [i64; DEPARTURES]
     ensures { λ r. ⌜ r ≡ plainTimes times ⌝ }
@@ -64,6 +73,55 @@ fn tell(answer: Answer, fault: &mut usize, value: &mut usize, times: &mut [i64; 
     *value = verdict.value();
     *times = plain_times(start);
     verdict.kind()
+}
+
+// Hands back what a writer answers.
+fn tell_written(answer: Written, fault: &mut usize, value: &mut usize) -> u32
+    ensures { λ r. ⌜ Handed (writtenNumbers answer) r (now (fault .exit)) (now (value .exit)) ⌝ }
+{
+    match answer {
+        Written::Refused(cause) => {
+            *fault = cause.number() as usize;
+            *value = cause.returned();
+            0
+        }
+        Written::Bytes(count) => {
+            *fault = 0;
+            *value = count;
+            4
+        }
+    }
+}
+
+// What was judged, with a count where it is accepted.
+fn with_count(judged: Judged, count: usize) -> Written
+    ensures { λ r. ⌜ r ≡ withCount judged count ⌝ }
+{
+    match judged {
+        Judged::Refused(fault) => Written::Refused(fault),
+        Judged::Accepted => Written::Bytes(count),
+    }
+}
+
+// The entries of a case as two arrays.
+fn entries_of(times: [Slot; TIMES], start: [Slot; BOUNDS], target: [Slot; BOUNDS]) -> Entries
+    ensures { λ r. ⌜ EntriesHanded ((times ++ start) ++ target) (r .present) (r .values) ⌝ }
+{
+    let mut present = [0u8; ENTRIES];
+    let mut values = [0i64; ENTRIES];
+    for k in 0..ENTRIES {
+        let slot = if k < START {
+            times[k]
+        } else if k < TARGET {
+            start[k - START]
+        } else {
+            target[k - TARGET]
+        };
+        let value = slot.value;
+        present[k] = if slot.has { 1 } else { 0 };
+        values[k] = value.0;
+    }
+    Entries { present, values }
 }
 
 fn run_verdict(judged: Judged, cycle: Cycle) -> Verdict
@@ -182,4 +240,54 @@ pub extern "C" fn tramcheck_run(
     let start = run.times;
     let verdict = run_verdict(judged, Cycle(cycle));
     tell(Answer { verdict, start }, fault, value, times)
+}
+
+// Writes an unpacked case in packed form to the front of out.
+#[no_mangle]
+pub extern "C" fn tramcheck_write(
+    n: usize,
+    horizon: usize,
+    present: &[u8; ENTRIES],
+    values: &[i64; ENTRIES],
+    out: &mut [u8],
+    fault: &mut usize,
+    value: &mut usize,
+) -> u32
+    ensures { λ r. ⌜ WrittenHanded (caseIn n horizon (now (present .entry)) (now (values .entry))) (now (out .entry)) r (now (fault .exit)) (now (value .exit)) (now (out .exit)) ⌝ }
+{
+    let case = case_in(n, horizon, present, values);
+    let answer = packer::write(case, out);
+    tell_written(answer, fault, value)
+}
+
+// Reads a packed case and hands it back unpacked; the empty case where it is refused.
+#[no_mangle]
+pub extern "C" fn tramcheck_read(
+    bytes: &[u8],
+    n: &mut usize,
+    horizon: &mut usize,
+    present: &mut [u8; ENTRIES],
+    values: &mut [i64; ENTRIES],
+    fault: &mut usize,
+    value: &mut usize,
+) -> u32
+    ensures { λ r. ⌜ Handed (writtenNumbers (withCount (unpacked (parse (now (bytes .entry))) .judged) (length (now (bytes .entry))))) r (now (fault .exit)) (now (value .exit)) ⌝ }
+    ensures { λ _. ⌜ CaseHanded (unpacked (parse (now (bytes .entry))) .case) (now (n .exit)) (now (horizon .exit)) (now (present .exit)) (now (values .exit)) ⌝ }
+{
+    let read = packed::read(bytes);
+    let case = read.case;
+    let cycles = case.horizon;
+    *n = case.n;
+    *horizon = cycles.0;
+    let times = case.times;
+    let start = case.start;
+    let target = case.target;
+    let entries = entries_of(times, start, target);
+    let flags = entries.present;
+    *present = flags;
+    let numbers = entries.values;
+    *values = numbers;
+    let judged = read.judged;
+    let answer = with_count(judged, bytes.len());
+    tell_written(answer, fault, value)
 }

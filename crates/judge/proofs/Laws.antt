@@ -18,8 +18,8 @@ use Rattle.model.specs.declared.Judged.{Judged}
 use Rattle.model.specs.declared.Judged.the-variants as judged
 use Rattle.model.specs.Lists.{anyOf, when, orElse}
 use Rattle.model.specs.Network.{regular}
-use Rattle.model.specs.Faults.{timeOf, beyond, entryFault, rowsFault, outside, tableFault}
-use Rattle.model.proofs.Limits.{no-fault}
+use Rattle.model.specs.Faults.{timeOf, beyond, entryFault, rowsFault, outside, tableFault, caseFault}
+use Rattle.model.proofs.Limits.{no-fault, orElse-none}
 use Rattle.judge.specs.Judgement.{judgedBy}
 
 -- ---- a walk over n entries: i were passed, and the first fault is that of the others
@@ -127,3 +127,8 @@ module _ {r : Judged} (o : Option Fault) (made : r ≡ judgedBy o) where
 pub few : (c : Case) (low k : ℕ) → tableFault c low k ≡ none → c .n ≤ 7
 unfolding tableFault outside
 few c low k h = let facts = simp no-fault at h in omega arith
+
+-- so has a case without a fault
+pub few-case : (c : Case) → caseFault c ≡ none → c .n ≤ 7
+unfolding caseFault
+few-case c h = few c 1 (c .horizon .0) (orElse-none _ _ .0 h .0)

@@ -1,11 +1,11 @@
-// Judges an unpacked case: the first fault of a call for a verdict, and of a run.
+// Judges an unpacked case: the first fault of the case by itself, of a call for a verdict, and of a run.
 ghost use mathlib.Core.Path.{_≡_};
 ghost use mathlib.Core.List.{map};
 ghost use Prim.Native.Nat.{_≤_, _<_, _^_};
 ghost use lib.ListN.{take};
 ghost use Rattle.model.specs.declared.Fault.the-variants as fault;
 ghost use Rattle.model.specs.Faults;
-ghost use Rattle.model.specs.Faults.{present, entryFault, rowsFault, tableFault, patternsFault, roomFault, callFault, runFault};
+ghost use Rattle.model.specs.Faults.{present, entryFault, rowsFault, tableFault, patternsFault, caseFault, roomFault, callFault, runFault};
 ghost use Rattle.judge.specs.Judgement.{judgedBy};
 use ints::Cycle;
 use ints::Seconds;
@@ -130,16 +130,23 @@ fn room_fault(n: usize, capacity: usize, size: usize) -> Judged
     Judged::Accepted
 }
 
+// The first fault of a case by itself, 2 to 6.
+pub fn case_fault(case: Case) -> Judged
+    ensures { λ r. ⌜ r ≡ judgedBy (caseFault case) ⌝ }
+{
+    let horizon = case.horizon;
+    if let Judged::Refused(f) = table_fault(case, 1, horizon.0) {
+        return Judged::Refused(f);
+    }
+    patterns_fault(case)
+}
+
 // The first fault of a call for a verdict, capacity being Z and size the length of the workspace.
 pub fn call_fault(case: Case, capacity: usize, size: usize) -> Judged
     ensures { λ r. ⌜ r ≡ judgedBy (callFault case capacity size) ⌝ }
 {
     let n = case.n;
-    let horizon = case.horizon;
-    if let Judged::Refused(f) = table_fault(case, 1, horizon.0) {
-        return Judged::Refused(f);
-    }
-    if let Judged::Refused(f) = patterns_fault(case) {
+    if let Judged::Refused(f) = case_fault(case) {
         return Judged::Refused(f);
     }
     room_fault(n, capacity, size)

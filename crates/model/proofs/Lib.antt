@@ -31,7 +31,13 @@ pub mod Sizes
 pub mod Beyond
 pub mod Concluded
 pub mod Limits
+pub mod Digits
 pub mod Parsed
+pub mod Spelled
+pub mod Inverse
+pub mod Bytes
+pub mod RoundTrip
+pub mod Writer
 pub mod DemandsHold
 pub mod Determined
 pub mod Runs

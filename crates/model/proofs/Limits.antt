@@ -23,7 +23,7 @@ use Rattle.model.specs.Bound as B
 use Rattle.model.specs.Bound.{Bound, most}
 use Rattle.model.specs.Pattern.{pairPlace, pairBound}
 use Rattle.model.specs.Network.{Time, blank, secs, Network, time, isTime, regular}
-use Rattle.model.specs.Faults.{timeOf, boundOf, nothing, present, network, beyond, entryFault, rowsFault, outside, tableFault, patternsFault, roomFault, callFault, runFault}
+use Rattle.model.specs.Faults.{timeOf, boundOf, nothing, present, network, beyond, entryFault, rowsFault, outside, tableFault, patternsFault, caseFault, roomFault, callFault, runFault}
 use Rattle.model.specs.Conditions.{Regular, InLimit, TableLimits}
 use Rattle.model.proofs.Listed.{every-append, every-map, of-both, at-getD, map-every, of-map-every}
 
@@ -51,6 +51,13 @@ not-is-false t = (not-false t, ap not)
 -- no number is below one that is at most as large
 pub ltb-is-false : (a b : ℕ) → (ltb a b ≡ false) ↔ (b ≤ a)
 ltb-is-false a b = (ltb-false a b, le-ltb a b)
+
+-- a larger limit
+pub wider-limit : {a b : ℕ} → a ≤ b → (e : Slot) → InLimit a e → InLimit b e
+unfolding beyond
+wider-limit {a} {b} h e =
+    let size = natAbs (e .value .0) in
+    elim (e .has) as (λ t. (t && ltb a size) ≡ false → (t && ltb b size) ≡ false) [ true ↦ λ l. le-ltb b size (omega (arith, ltb-false)) | false ↦ λ l. refl ]
 
 -- every entry is in the limit
 pub entryFault-none : (limit : ℕ) (f : ℕ → Fault) (p : ℕ) (es : List Slot) → (entryFault limit f p es ≡ none) ↔ Every (InLimit limit) es
@@ -179,15 +186,15 @@ table-of a b r = record { some-departures = a; few-departures = b; regular = row
 module _ (c : Case) (capacity size : ℕ) (h : callFault c capacity size ≡ none) where
   -- the network of a call without a fault is in the limits
   pub limits-of : Limits (network c)
-  unfolding callFault tableFault patternsFault outside network
+  unfolding callFault caseFault tableFault patternsFault outside network
   limits-of =
       let facts = simp no-fault at h in
       record {
-        table = table-of (omega arith) (omega arith) (facts .0 .1 .1);
+        table = table-of (omega arith) (omega arith) (facts .0 .0 .1 .1);
         some-cycles = omega arith;
         few-cycles = omega arith;
-        start-small = bound-small (facts .1 .0 .0) (c .n);
-        target-small = bound-small (facts .1 .0 .1) (c .n);
+        start-small = bound-small (facts .0 .1 .0) (c .n);
+        target-small = bound-small (facts .0 .1 .1) (c .n);
       }
 
   -- Z is in its limits, and the workspace is long enough for it
@@ -197,11 +204,11 @@ module _ (c : Case) (capacity size : ℕ) (h : callFault c capacity size ≡ non
 
   -- a run of the case to a cycle from 0 to 64 meets no fault if its start times are in their limit
   pub run-without : (xs : List Seconds) (k : ℕ) → k ≤ 64 → StartsSmall (take (c .n) xs) → runFault c xs k ≡ none
-  unfolding callFault runFault tableFault outside beyond
+  unfolding callFault caseFault runFault tableFault outside beyond
   run-without xs k l small =
       let facts = simp no-fault at h in
       let starts = map-every {P = InLimit 1000000000000} (λ x. present (x .0)) (every-map (λ x. le-ltb _ _) small) in
-      simp no-fault ((facts .0 .0, ((omega arith, omega arith), facts .0 .1 .1)), starts)
+      simp no-fault ((facts .0 .0 .0, ((omega arith, omega arith), facts .0 .0 .1 .1)), starts)
 
 -- a run without a fault is in the limits
 pub run-limits : (c : Case) (xs : List Seconds) (k : ℕ) → runFault c xs k ≡ none → RunLimits c xs k

@@ -2,7 +2,6 @@
 -- `Gives P x` says that P holds of what the reading x gives, if it gives anything.
 use Prim.Native.Nat.{ℕ, zero, suc, _+_, _-_, _*_, _^_, _≤_, _<_}
 use native.Mathlib.Omega.{arith}
-use native.Mathlib.Nat.{pow-suc}
 use mathlib.Core.Path.{_≡_, refl, subst}
 use mathlib.Core.List.{List, [], _∷_, _++_, map, append-assoc}
 use mathlib.Core.Option.{none}
@@ -16,12 +15,13 @@ use Rattle.model.specs.declared.Case.{Case}
 use Rattle.model.specs.declared.Fault.{Fault}
 use Rattle.model.specs.declared.Fault.the-variants as fault
 use Rattle.model.specs.Network.{regular}
-use Rattle.model.specs.Faults.{timeOf, present, beyond, patternSize, outside, tableFault, patternsFault, roomFault, callFault}
+use Rattle.model.specs.Faults.{timeOf, present, beyond, patternSize, outside, tableFault, patternsFault, caseFault, roomFault, callFault}
 use Rattle.model.specs.Packed.{Reading, got, refused, andThen, bitAt, numAt, bits, signed, entry, entries, rows, bounds, fill, body, parse}
 use Rattle.model.specs.Lists.{Every, done, both}
 use Rattle.model.specs.Conditions.{InLimit}
 use Rattle.model.proofs.Listed.{every-append}
 use Rattle.model.proofs.Limits.{RowsInLimit, no-row, row, no-fault}
+use Rattle.model.proofs.Digits.{num-below, bit-small}
 
 -- ---- what holds of a reading's value and the place after it
 pub data Gives {A : Type 0} (P : A → ℕ → Type 0) : Reading A → Type 0 where
@@ -55,9 +55,7 @@ gives-any (refused f) = no-value
 -- ---- numbers
 -- w bits spell a number below 2 ^ w
 pub num-small : (s : List ℕ) (p w : ℕ) → numAt s p w < 2 ^ w
-unfolding numAt bitAt
-num-small s p zero = omega arith
-num-small s p (suc w) = rw pow-suc (omega (arith, num-small s p w))
+num-small s = num-below (bitAt s) (bit-small s)
 
 -- and so is a number that is read from w bits
 bits-give : (s : List ℕ) (w first p : ℕ) → Gives (λ v q. v < 2 ^ w) (bits s w first p)
@@ -113,12 +111,12 @@ module _ (s : List ℕ) (n : ℕ) where
 -- ---- the case
 -- none of the faults 2 to 6
 abbrev Faultless : Case → ℕ → Type 0
-Faultless c q = (tableFault c 1 (c .horizon .0) ≡ none) × (patternsFault c ≡ none)
+Faultless c q = caseFault c ≡ none
 
 module _ (s : List ℕ) where
   -- the tables, where the two numbers are in their limits
   body-gives : (n h p : ℕ) → 1 ≤ n → n ≤ 7 → 1 ≤ h → h ≤ 64 → Gives Faultless (body s n h p)
-  unfolding body tableFault patternsFault outside
+  unfolding body caseFault tableFault patternsFault outside
   body-gives n h p n-some n-few h-some h-few =
       then-gives (rows-give s n n p [] (λ rest r. r)) (λ times a t.
       then-gives (bounds-give s n a) (λ start b u.
@@ -140,10 +138,10 @@ module _ (s : List ℕ) where
 
   module _ (c : Case) (q : ℕ) (e : parse s ≡ got c q) where
     -- a case that can be read has none of the faults 2 to 6
-    pub parsed : (tableFault c 1 (c .horizon .0) ≡ none) × (patternsFault c ≡ none)
+    pub parsed : caseFault c ≡ none
     parsed = given parse-gives e
 
     -- so of the faults 2 to 10 a call on it can meet 9 and 10 alone
     pub parsed-call : (capacity size : ℕ) → callFault c capacity size ≡ roomFault (c .n) capacity size
     unfolding callFault
-    parsed-call capacity size = rw (parsed .0, parsed .1)
+    parsed-call capacity size = rw parsed

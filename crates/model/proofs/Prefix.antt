@@ -16,6 +16,7 @@ use Rattle.model.specs.declared.Fault.the-variants as fault
 use Rattle.model.specs.Network.{regular}
 use Rattle.model.specs.Faults.{timeOf, present, beyond, patternSize}
 use Rattle.model.specs.Packed.{Reading, got, refused, andThen, bitAt, numAt, bits, signed, entry, entries, rows, bounds, zeros, fill, body, parse}
+use Rattle.model.proofs.Digits.{num-same}
 use Rattle.model.proofs.Parsed.{num-small}
 
 data Agree {A : Type 0} (last : ℕ) : Reading A → Reading A → Type 0 where
@@ -42,14 +43,11 @@ module _ {A : Type 0} {last : ℕ} where
 
 -- two lists of bytes whose bits below top are the same, neither of them shorter
 module _ (s t : List ℕ) (top : ℕ) (long : top ≤ 8 * length s) (long' : top ≤ 8 * length t) (same : (p : ℕ) → p < top → bitAt s p ≡ bitAt t p) where
-  nums-agree : (p w : ℕ) → p + w ≤ top → numAt s p w ≡ numAt t p w
-  unfolding numAt
-  nums-agree p zero h = refl
-  nums-agree p (suc w) h = rw (nums-agree p w (omega arith), same (p + w) (omega arith)) refl
-
   read-s : (w first p : ℕ) → p + w ≤ top → bits s w first p ≡ got (numAt t p w) (p + w)
   unfolding bits
-  read-s w first p h = rw (le-leb (p + w) (8 * length s) (omega arith), nums-agree p w h) refl
+  read-s w first p h =
+      let same-number = num-same (bitAt s) (bitAt t) p p w (λ i l. same (p + i) (omega arith)) in
+      rw (le-leb (p + w) (8 * length s) (omega arith), same-number) refl
 
   read-t : (w first p : ℕ) → p + w ≤ top → bits t w first p ≡ got (numAt t p w) (p + w)
   unfolding bits

@@ -1,4 +1,4 @@
--- Document 01's faults: their numbers, what they return, and the first one of an unpacked case, of a call and of a run.
+-- Document 01's faults and request [1]'s, number 14: their numbers, what they return, and the first one of an unpacked case, of a call and of a run.
 use Prim.Native.Nat.{ℕ, zero, suc, _+_, _*_}
 use lib.IntN.{ℤ, pos, natAbs}
 use mathlib.Core.List.{List, [], _∷_, map}
@@ -31,6 +31,7 @@ code fault.Workspace = (10, 0)
 code (fault.TableFull k) = (11, k .0)
 code (fault.BoundTooLarge k) = (12, k .0)
 code (fault.StartTime i) = (13, i)
+code (fault.Output bytes) = (14, bytes)
 
 abbrev pub number : Fault → ℕ
 number f = code f .0
@@ -95,6 +96,10 @@ patternsFault c =
     let size = patternSize (c .n) in
     orElse (entryFault 1000000 fault.Bound 0 (take size (c .start))) (entryFault 1000000 fault.Bound size (take size (c .target)))
 
+-- the first fault of an unpacked case by itself, 2 to 6
+unfoldable pub caseFault : Case → Option Fault
+caseFault c = orElse (tableFault c 1 (c .horizon .0)) (patternsFault c)
+
 -- then 9 and 10
 unfoldable pub roomFault : ℕ → ℕ → ℕ → Option Fault
 roomFault n capacity size =
@@ -102,8 +107,7 @@ roomFault n capacity size =
 
 -- the first fault of a call for a verdict: the case, Z, the length of the workspace
 unfoldable pub callFault : Case → ℕ → ℕ → Option Fault
-callFault c capacity size =
-    orElse (tableFault c 1 (c .horizon .0)) (orElse (patternsFault c) (roomFault (c .n) capacity size))
+callFault c capacity size = orElse (caseFault c) (roomFault (c .n) capacity size)
 
 -- the first fault of a run: the case, the start times, the cycle
 unfoldable pub runFault : Case → List Seconds → ℕ → Option Fault

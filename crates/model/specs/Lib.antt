@@ -9,6 +9,8 @@ pub mod Zones
 pub mod Faults
 pub mod Packed
 pub mod Answers
+pub mod Writing
 pub mod Demands
 pub mod Conditions
 pub mod Examples
+pub mod WritingVectors

@@ -26,10 +26,13 @@ andThen (refused e) f = refused e
 unfoldable pub bitAt : List ℕ → ℕ → ℕ
 bitAt s p = getD s (p / 8) 0 / 2 ^ (7 - p % 8) % 2
 
--- the number that the w bits from place p on spell
-unfoldable pub numAt : List ℕ → ℕ → ℕ → ℕ
-numAt s p zero = 0
-numAt s p (suc w) = numAt s p w * 2 + bitAt s (p + w)
+-- the number that the w bits f p, f (p + 1), .. spell
+unfoldable pub numOf : (ℕ → ℕ) → ℕ → ℕ → ℕ
+numOf f p zero = 0
+numOf f p (suc w) = numOf f p w * 2 + f (p + w)
+
+abbrev pub numAt : List ℕ → ℕ → ℕ → ℕ
+numAt s p w = numOf (bitAt s) p w
 
 -- w bits at place p, of a field that starts at place first
 unfoldable pub bits : List ℕ → ℕ → ℕ → ℕ → Reading ℕ

@@ -41,6 +41,7 @@ pub enum Fault {
     TableFull(Cycle),
     BoundTooLarge(Cycle),
     StartTime(usize),
+    Output(usize),
 }
 
 impl Fault {
@@ -61,6 +62,7 @@ impl Fault {
             Fault::TableFull(_) => 11,
             Fault::BoundTooLarge(_) => 12,
             Fault::StartTime(_) => 13,
+            Fault::Output(_) => 14,
         }
     }
 
@@ -81,6 +83,7 @@ impl Fault {
             Fault::TableFull(k) => k.0,
             Fault::BoundTooLarge(k) => k.0,
             Fault::StartTime(departure) => departure,
+            Fault::Output(needed) => needed,
         }
     }
 }
@@ -145,6 +148,12 @@ pub enum Judged {
 pub struct Unpacked {
     pub judged: Judged,
     pub case: Case,
+}
+
+// What a writer says: how many bytes it put at the front of the output, or why it put none.
+pub enum Written {
+    Bytes(usize),
+    Refused(Fault),
 }
 
 // The times of a run's cycle: all 0 where it is refused.

@@ -17,7 +17,7 @@ use Rattle.model.specs.declared.Fault.the-variants as fault
 use Rattle.model.specs.Lists.{padded, anyOf}
 use Rattle.model.specs.Network.{isTime, regular}
 use Rattle.model.specs.Faults.{timeOf, nothing, present, beyond}
-use Rattle.model.specs.Packed.{got, refused, andThen, bitAt, numAt, bits, signed, entry, entries, rows, zeros}
+use Rattle.model.specs.Packed.{got, refused, andThen, bitAt, numOf, numAt, bits, signed, entry, entries, rows, zeros}
 use Rattle.model.proofs.Parsed.{Gives, value, no-value, given, test-gives, then-gives, num-small}
 use Rattle.packed.specs.Readings.{Place}
 
@@ -33,7 +33,7 @@ num-next s p i h =
     omega (arith, num-small s p i)
 
 pub num-suc : (s : List ℕ) (p i : ℕ) → numAt s p (i + 1) ≡ numAt s p i * 2 + bitAt s (p + i)
-unfolding numAt
+unfolding numOf
 num-suc s p i = ap (numAt s p) (add-one i)
 
 -- ---- what a reading gives

@@ -10,7 +10,7 @@ use Rattle.model.specs.declared.Fault.the-variants as fault
 use Rattle.model.specs.Lists.{anyOf}
 use Rattle.model.specs.Network.{isTime, regular}
 use Rattle.model.specs.Faults.{timeOf, nothing, present, beyond}
-use Rattle.model.specs.Packed.{Reading, got, refused, bitAt, numAt, bits, signed, entry, entries, rows, bounds, zeros, fill, caseOf, body, parse}
+use Rattle.model.specs.Packed.{Reading, got, refused, bitAt, numOf, bits, signed, entry, entries, rows, bounds, zeros, fill, caseOf, body, parse}
 
 pub data Vector : Type 0 where
   reads : List ℕ → Reading Case → Vector
@@ -60,5 +60,5 @@ vectors =
     ∷ []
 
 pub all-right : AllRight vectors
-unfolding anyOf isTime regular timeOf beyond bitAt numAt bits signed entry entries rows bounds zeros fill body parse
+unfolding anyOf isTime regular timeOf beyond bitAt numOf bits signed entry entries rows bounds zeros fill body parse
 all-right = (refl, (refl, (refl, (refl, (refl, (refl, (refl, (refl, (refl, (refl, (refl, (refl, (refl, tt)))))))))))))

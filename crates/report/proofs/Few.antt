@@ -8,7 +8,7 @@ use Rattle.model.specs.declared.Case.{Case}
 use Rattle.model.specs.declared.Fault.{Fault}
 use Rattle.model.specs.declared.Verdict.{Verdict}
 use Rattle.model.specs.declared.Verdict.the-variants as verdict
-use Rattle.model.specs.Faults.{network, outside, tableFault, callFault}
+use Rattle.model.specs.Faults.{network, outside, tableFault, caseFault, callFault}
 use Rattle.model.specs.Packed.{Reading, got, refused, parse}
 use Rattle.model.specs.Answers.{answer, answerPacked, unpacked}
 use Rattle.model.specs.Demands.{InLimits}
@@ -39,10 +39,10 @@ module _ (s : List ℕ) (capacity size : ℕ) where
     pub cycles : lineCount (answerPacked s capacity size .verdict) ≤ 65
 
   few-of : (r : Reading Case) → parse s ≡ r → Few
-  unfolding answerPacked lineCount tableFault outside
+  unfolding answerPacked lineCount caseFault tableFault outside
   few-of (refused f) e = record { departures = rw e (omega arith); cycles = rw (e, answerPacked) (omega arith) }
   few-of (got c q) e =
-      let facts = simp no-fault at (parsed s c q e .0) in
+      let facts = simp no-fault at (parsed s c q e) in
       record { departures = rw e (omega arith); cycles = rw (e, answerPacked) (few-lines c capacity size (callFault c capacity size) refl) }
 
   pub few : Few

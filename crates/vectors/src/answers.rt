@@ -143,26 +143,6 @@ fn write_outcome(outcome: Outcome) {
     write_work(outcome.work);
 }
 
-// A number for each kind of verdict: a fault's own, and others for those that are no fault.
-fn kind(verdict: Verdict) -> u8 {
-    match verdict {
-        Verdict::Reached(_) => 101,
-        Verdict::Clear(_) => 102,
-        Verdict::Never => 103,
-        Verdict::Refused(fault) => fault.number(),
-    }
-}
-
-// The number beside a verdict.
-fn value(verdict: Verdict) -> usize {
-    match verdict {
-        Verdict::Reached(k) => k.0,
-        Verdict::Clear(horizon) => horizon.0,
-        Verdict::Never => 0,
-        Verdict::Refused(fault) => fault.returned(),
-    }
-}
-
 fn same(a: Outcome, b: Outcome) -> bool {
     let first = a.answer;
     let second = b.answer;
@@ -170,7 +150,11 @@ fn same(a: Outcome, b: Outcome) -> bool {
     let v = second.verdict;
     let x = first.start;
     let y = second.start;
-    kind(u) == kind(v) && value(u) == value(v) && text::same_times(x, y) && a.work == b.work
+    u.kind() == v.kind()
+        && u.fault() == v.fault()
+        && u.value() == v.value()
+        && text::same_times(x, y)
+        && a.work == b.work
 }
 
 // The rest of a line for a packed case.
@@ -185,7 +169,12 @@ pub(crate) fn both_answers(case: Case, capacity: usize, room: usize) {
     io::write_all(1, b": ");
     let unpacked = plain(case, capacity, room);
     write_outcome(unpacked);
-    let packed = packed_form(packing::pack(case), capacity, room);
+    let written = packing::pack(case);
+    if written.length == 0 {
+        io::write_all(1, b"; not packed\n");
+        return;
+    }
+    let packed = packed_form(written, capacity, room);
     if same(unpacked, packed) {
         io::write_all(1, b"; packed the same\n");
     } else {

@@ -10,8 +10,7 @@ use crate::cases::any;
 use crate::cases::one;
 use crate::cases::two;
 use crate::damage;
-use crate::damage::cut_line;
-use crate::damage::marked_line;
+use crate::packing;
 use crate::packing::Packed;
 
 fn numbers(n: usize, horizon: usize, time: i64) {
@@ -84,17 +83,45 @@ fn before_call() {
     packed_answer(short, 0, 0);
 }
 
-fn cut(a: i64, b: i64, c: i64, d: i64, length: usize) {
-    cut_line(cases::unbounded(3, cases::table2(a, b, c, d)), length);
+// The time 86401: 86400 with its last bit set.
+fn time_beyond(length: usize) {
+    let case = cases::unbounded(3, cases::table2(86400, 5, 3, 3));
+    let beyond = damage::marked(damage::packed(case, 128, 2304), 27);
+    packed_answer(damage::cut(beyond, length), 128, 2304);
 }
 
-// 1 and 4, 1 and 5: a time is judged where the case ends after it, not within it. 6 and 7.
+// The bound 1000001: 1000000 with its last bit set.
+fn bound_beyond(start: bool, bit: usize) -> Packed {
+    let bound = cases::d_at_most(1000000);
+    let case = if start {
+        two(3, cases::r(), bound, any())
+    } else {
+        two(3, cases::r(), any(), bound)
+    };
+    damage::marked(damage::packed(case, 128, 2304), bit)
+}
+
+fn bytes(label: &[u8], packed: Packed) {
+    io::write_all(1, label);
+    packed_answer(packed, 128, 2304);
+}
+
+// 4; 1 and 4, 1 and 5: a time is judged where the case ends after it, not within it. 6 in each pattern; 6 and 7.
 fn in_packed() {
-    cut(86401, 5, 3, 3, 4);
-    cut(86401, 5, 3, 3, 3);
-    cut(BLANK, BLANK, 3, 3, 2);
-    cut(2, BLANK, BLANK, BLANK, 4);
-    marked_line(two(3, cases::r(), any(), cases::d_at_most(1000001)), 119);
+    time_beyond(13);
+    time_beyond(4);
+    time_beyond(3);
+    bytes(
+        b"N 3, A = blank blank, bytes 41 00",
+        packing::of_bytes(65, 0, 0, 0, 0, 2),
+    );
+    bytes(
+        b"N 3, A = 2 blank / blank blank, bytes 41 40 00 20",
+        packing::of_bytes(65, 64, 0, 32, 0, 4),
+    );
+    packed_answer(bound_beyond(true, 109), 128, 2304);
+    packed_answer(bound_beyond(false, 115), 128, 2304);
+    packed_answer(damage::marked(bound_beyond(false, 115), 119), 128, 2304);
 }
 
 // A value marked absent is ignored.

@@ -1,5 +1,4 @@
 // Writes numbers, times and faults.
-use crate::packing;
 use ints::Seconds;
 use model::DEPARTURES;
 use model::Fault;
@@ -8,11 +7,19 @@ pub(crate) fn number(n: usize) {
     io::print_decimal(1, n as u64);
 }
 
+fn magnitude(value: i64) -> u64 {
+    if value < 0 {
+        (-(value + 1)) as u64 + 1
+    } else {
+        value as u64
+    }
+}
+
 pub(crate) fn signed(time: Seconds) {
     if time.0 < 0 {
         io::write_all(1, b"-");
     }
-    io::print_decimal(1, packing::magnitude(time.0));
+    io::print_decimal(1, magnitude(time.0));
 }
 
 // A number with its sign changed.
@@ -20,7 +27,7 @@ pub(crate) fn opposite(time: Seconds) {
     if time.0 > 0 {
         io::write_all(1, b"-");
     }
-    io::print_decimal(1, packing::magnitude(time.0));
+    io::print_decimal(1, magnitude(time.0));
 }
 
 // All seven times.

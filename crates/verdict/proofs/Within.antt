@@ -3,16 +3,13 @@ use Prim.Native.Nat.{ℕ, _+_, _*_, _≤_}
 use native.Mathlib.Omega.{arith}
 use native.Mathlib.Nat.{mul-assoc}
 use native.Mathlib.Numerals.{add-one}
-use mathlib.Core.Path.{_≡_, refl, ap, _∙_}
-use mathlib.Core.Bool.{Bool, true, false, _&&_, _||_}
+use mathlib.Core.Path.{_≡_, ap, _∙_}
+use mathlib.Core.Bool.{Bool, _||_}
 use mathlib.Core.List.{List, []}
 use mathlib.Core.Option.{some}
-use lib.IntN.{ℤ, natAbs}
-use lib.Dec.{ltb}
+use lib.IntN.{ℤ}
 use lib.ListN.{length, take}
 use lib.Seq.{length-take-le}
-use borrow.Author.Tests.{ltb-false, le-ltb}
-use Rattle.model.specs.declared.Slot.{Slot}
 use Rattle.model.specs.declared.Case.{Case}
 use Rattle.model.specs.declared.Answer.{Answer}
 use Rattle.model.specs.Pattern.{onlyDifferences}
@@ -20,12 +17,12 @@ use Rattle.model.specs.Network.{Network, Repeat, repeatOf, firstRepeat, powersF
 use Rattle.model.specs.Search as S
 use Rattle.model.specs.Search.{plan, planWith, lists, outcome}
 use Rattle.model.specs.Answers.{answered}
-use Rattle.model.specs.Faults.{network, beyond, callFault, tableFault, patternsFault, patternSize}
+use Rattle.model.specs.Faults.{network, callFault, caseFault, tableFault, patternsFault, patternSize}
 use Rattle.model.specs.Demands.{InLimits}
 use Rattle.model.specs.Lists.{Every}
 use Rattle.model.specs.Conditions.{InLimit}
 use Rattle.model.proofs.Listed.{every-map}
-use Rattle.model.proofs.Limits.{no-fault, rows-in, limits-of, room-of}
+use Rattle.model.proofs.Limits.{wider-limit, no-fault, rows-in, limits-of, room-of}
 use Rattle.model.proofs.Repeats.{repeat-sound}
 use Rattle.model.proofs.Searched as Q
 use Rattle.model.proofs.Searched.{plan-is}
@@ -38,14 +35,6 @@ use Rattle.search.specs.Searching.{networkIn, Searchable, Searched}
 use Rattle.verdict.specs.declared.Plan.{Plan}
 use Rattle.verdict.specs.Planning.{Planned}
 use Rattle.verdict.proofs.Plans.{same-search}
-
--- a time in its limit is in the limit of a bound
-wider : (e : Slot) → InLimit 86400 e → InLimit 1000000 e
-unfolding beyond
-wider e =
-    let z = e .value .0 in
-    elim (e .has) as (λ t. (t && ltb 86400 (natAbs z)) ≡ false → (t && ltb 1000000 (natAbs z)) ≡ false)
-    [ true ↦ λ h. let b = ltb-false 86400 (natAbs z) h in le-ltb 1000000 (natAbs z) (omega arith) | false ↦ λ h. refl ]
 
 -- the entries of a case that count, in memory
 pub record Encoded (c : Case) (times start target : List ℤ) : Type 0 where
@@ -62,16 +51,16 @@ module _ (c : Case) (capacity size : ℕ) (h : InLimits c capacity size) where
   few = limits-of c capacity size h .table .few-departures
 
   pub times-in-limit : Every (InLimit 1000000) (take (c .n * c .n) (c .times))
-  unfolding callFault tableFault
-  times-in-limit = let facts = simp no-fault at h in every-map wider (rows-in (facts .0 .1 .1))
+  unfolding callFault caseFault tableFault
+  times-in-limit = let facts = simp no-fault at h in every-map (wider-limit (omega arith)) (rows-in (facts .0 .0 .1 .1))
 
   pub start-in-limit : Every (InLimit 1000000) (take (patternSize (c .n)) (c .start))
-  unfolding callFault patternsFault
-  start-in-limit = let facts = simp no-fault at h in facts .1 .0 .0
+  unfolding callFault caseFault patternsFault
+  start-in-limit = let facts = simp no-fault at h in facts .0 .1 .0
 
   pub target-in-limit : Every (InLimit 1000000) (take (patternSize (c .n)) (c .target))
-  unfolding callFault patternsFault
-  target-in-limit = let facts = simp no-fault at h in facts .1 .0 .1
+  unfolding callFault caseFault patternsFault
+  target-in-limit = let facts = simp no-fault at h in facts .0 .1 .1
 
   pub powers-ready : Ready (c .n) (tableOf (c .n) (c .times))
   unfolding network

@@ -5,7 +5,7 @@ use mathlib.Core.Path.{_≡_, refl, ap, _∙_}
 use Prim.Native.Nat.{ℕ, _+_, _-_, _*_, _≤_, _<_}
 use native.Mathlib.Omega.{arith}
 use lib.ListN.{length}
-use Rattle.model.specs.Packed.{got, numAt, bits}
+use Rattle.model.specs.Packed.{got, numOf, numAt, bits}
 use Rattle.packed.proofs.Laws.{bit-small, num-next, num-suc}
 use Rattle.packed.proofs.Cursor.bits.Statement.{statement}
 use Rattle.packed.proofs.Cursor.bits.Tie as tie
@@ -30,7 +30,7 @@ returns c first =
     simp (lt-leb _ _ h)
 
 loop-holds : tie.Need-loop-holds Inv-loop μ-loop
-unfolding numAt
+unfolding numOf
 loop-holds c = (search needs, refl)
 
 mul-v : tie.Need-mul-v Inv-loop μ-loop

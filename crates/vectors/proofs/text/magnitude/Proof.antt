@@ -11,8 +11,8 @@ use mir.Syntax.{w64}
 use mir.Val.{SFits}
 use mir.ValLaws.{toZ-ofZ}
 use Rattle.ints.proofs.Integers.{dn, ints, pos-ud, add-ud, sub-ud, abs-ud, range, fits}
-use Rattle.vectors.proofs.packing.magnitude.Statement.{statement}
-use Rattle.vectors.proofs.packing.magnitude.Tie as tie
+use Rattle.vectors.proofs.text.magnitude.Statement.{statement}
+use Rattle.vectors.proofs.text.magnitude.Tie as tie
 
 module _ {z : ℤ} (f : SFits w64 z) (h : ltZ z (pos 0) ≡ true) where
   more : SFits w64 (z +ℤ pos 1)

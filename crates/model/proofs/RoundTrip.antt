@@ -1,0 +1,143 @@
+-- The bits of a case are read as the case without what is ignored, and the bits that a case was read from are its bits.
+use Prim.Native.Nat.{ℕ, zero, suc, _+_, _-_, _*_, _≤_}
+use native.Mathlib.Omega.{arith}
+use native.Mathlib.Nat.{zero-mul}
+use mathlib.Core.Path.{_≡_, refl, ap₂, _∙_}
+use mathlib.Core.List.{List, [], _∷_, _++_, map, flatMap, map-append, append-assoc, append-nil}
+use mathlib.Core.Bool.{Bool, true, false, cond}
+use mathlib.Core.Option.{none}
+use lib.Dec.{eqb}
+use lib.ListN.{length, take, drop, replicate, length-append, length-map, length-drop}
+use lib.Seq.{take-at, take-add, length-take-le}
+use borrow.Author.Tests.{ne-eqb}
+use Rattle.model.specs.declared.Slot.{Slot}
+use Rattle.model.specs.declared.Case.{Case}
+use Rattle.model.specs.declared.Fault.the-variants as fault
+use Rattle.model.specs.Lists.{padded}
+use Rattle.model.specs.Network.{regular}
+use Rattle.model.specs.Faults.{timeOf, patternSize, outside, tableFault, patternsFault, caseFault}
+use Rattle.model.specs.Packed.{got, rows, bounds, caseOf, body, parse}
+use Rattle.model.specs.Writing.{fieldBits, Kind, timeKind, boundKind, entriesBits, allBounds, caseBits, tidy, tidied}
+use Rattle.model.proofs.Limits.{RowsInLimit, no-row, row, no-fault}
+use Rattle.model.proofs.Parsed.{Gives, value, no-value, test-gives, then-gives}
+use Rattle.model.proofs.Spelled.{Spells, end, ends, join, split, bits-of, bits-spell}
+use Rattle.model.proofs.Inverse.{Lawful, bits-append, entries-split, slot-lawful, slots-of, slots-spell}
+use Rattle.model.proofs.Bytes.{missing, filled, fill-of, fill-spells}
+
+-- times and bounds are in what their widths hold
+time-lawful : Lawful timeKind
+time-lawful = slot-lawful 17 86400 fault.Time (omega arith)
+
+bound-lawful : Lawful boundKind
+bound-lawful = slot-lawful 20 1000000 fault.Bound (omega arith)
+
+-- what is said of an absent entry whatever its value is said of entries without the values that are ignored
+module _ {A Y : Type 0} (k : Kind A) (g : A → Y) (absent : (e : A) → k .has e ≡ false → g (k .absent) ≡ g e) where
+  tidy-same : (e : A) (t : Bool) → k .has e ≡ t → g (cond t e (k .absent)) ≡ g e
+  tidy-same e true h = refl
+  tidy-same e false h = absent e h
+
+  tidied-same : (es : List A) → map g (map (tidy k) es) ≡ map g es
+  tidied-same [] = refl
+  tidied-same (e ∷ es) = ap₂ _∷_ (tidy-same e (k .has e) refl) (tidied-same es)
+
+  -- and of the first count of them, once they stand in an array
+  pub padded-same : (size count : ℕ) (es : List A) → count ≤ length es
+      → map g (take count (padded (k .absent) size (map (tidy k) (take count es)))) ≡ map g (take count es)
+  padded-same size count es long =
+      let size-is = length-map (take count es) (tidy k) ∙ length-take-le count es long in
+      rw (take-at (map (tidy k) (take count es)) _ count size-is) (tidied-same (take count es))
+
+-- ---- rows
+module _ (s : List ℕ) (n : ℕ) where
+  -- rows in their limits are read where they are written
+  rows-of : {r p q : ℕ} {es : List Slot} (before : List Slot) → RowsInLimit n r es → r * n ≤ length es → Spells s p (entriesBits timeKind (take (r * n) es)) q
+      → rows s n r p before ≡ got (before ++ map (tidy timeKind) (take (r * n) es)) q
+  unfolding rows entriesBits flatMap timeOf
+  rows-of {p} {q} before no-row long t =
+      let e : q ≡ p = omega (arith, ends (rw (zero-mul n) at t)) in
+      rw (zero-mul, append-nil, e)
+  rows-of {p} before (row {r} {es} inside reg rest) long t =
+      let now = take n es in
+      let later = take (r * n) (drop n es) in
+      let e : suc r * n ≡ n + r * n = omega arith in
+      let whole : take (suc r * n) es ≡ now ++ later = rw e (take-add n (r * n) es) in
+      let (m, x, y) = entries-split timeKind now later (rw whole at t) in
+      let first = slots-of 18 86400 fault.Time time-lawful s n es (omega arith) inside x in
+      let others = rows-of (before ++ map (tidy timeKind) now) rest (omega (arith, length-drop n es)) y in
+      rw (first, tidied-same timeKind timeOf (λ e h. rw h) now, reg, others, whole, map-append, append-assoc)
+
+  -- rows that are read after those of before, whose bits start at place first: m entries in all
+  rows-spell : (m k first p : ℕ) (before : List Slot) → Spells s first (entriesBits timeKind before) p → length before + k * n ≡ m
+      → Gives (λ es q. Spells s first (entriesBits timeKind es) q × (length es ≡ m)) (rows s n k p before)
+  unfolding rows
+  rows-spell m zero first p before h e = value {a = before} (h, omega arith)
+  rows-spell m (suc k) first p before h e =
+      then-gives (slots-spell 18 86400 fault.Time time-lawful s n p (omega (arith, ends h))) (λ es q r.
+      test-gives (regular (map timeOf es))
+      (λ t. rows-spell m k first q (before ++ es) (rw (bits-append timeKind before es) (join h (r .0))) (omega (arith, r .1, length-append before es)))
+      (λ t. no-value))
+
+-- ---- the case
+-- its arrays are long enough for n
+pub record Whole (c : Case) : Type 0 where
+  pub times : c .n * c .n ≤ length (c .times)
+  pub start : patternSize (c .n) ≤ length (c .start)
+  pub target : patternSize (c .n) ≤ length (c .target)
+
+-- the bits of a case that is made of lists of the right length
+made : (n m : ℕ) (times start target : List Slot) → length times ≡ n * n → length start ≡ patternSize n → length target ≡ patternSize n
+    → caseBits (caseOf n (m + 1) times start target)
+    ≡ fieldBits 3 n ++ fieldBits 6 m ++ entriesBits timeKind times ++ (entriesBits boundKind start ++ entriesBits boundKind target)
+unfolding caseBits
+made n m times start target t u v =
+    let e : m + 1 - 1 ≡ m = omega arith in
+    rw (e, take-at times _ (n * n) t, take-at start _ (patternSize n) u, take-at target _ (patternSize n) v, bits-append boundKind start target)
+
+module _ (s : List ℕ) where
+  -- the bits of a case are read as the case without what is ignored
+  pub parse-of : (c : Case) → caseFault c ≡ none → Whole c → Spells s 0 (filled (caseBits c)) (8 * length s) → parse s ≡ got (tidied c) (8 * length s)
+  unfolding caseFault tableFault patternsFault outside parse body bounds caseBits tidied
+  parse-of c h whole r =
+      let facts = simp no-fault at h in
+      let n = c .n in
+      let size = patternSize n in
+      let D = fieldBits 3 n in
+      let N = fieldBits 6 (c .horizon .0 - 1) in
+      let T = entriesBits timeKind (take (n * n) (c .times)) in
+      let (f, in-front, zeros) = split (caseBits c) (replicate (missing (length (caseBits c))) 0) r in
+      let (_, table, patterns) = split (D ++ N ++ T) (entriesBits boundKind (allBounds c)) in-front in
+      let (_, head, times) = split (D ++ N) T table in
+      let (d, departures, horizon) = split D N head in
+      let (_, start, target) = entries-split boundKind (take size (c .start)) (take size (c .target)) patterns in
+      let one-less : c .horizon .0 - 1 + 1 ≡ c .horizon .0 = omega arith in
+      rw (
+        bits-of s 3 0 n (omega arith) departures,
+        ne-eqb n 0 (λ z. omega arith),
+        bits-of s 6 d (c .horizon .0 - 1) (omega arith) horizon,
+        one-less,
+        rows-of s n [] (facts .0 .1 .1) (whole .times) times,
+        slots-of 21 1000000 fault.Bound bound-lawful s size (c .start) (whole .start) (facts .1 .0) start,
+        slots-of 21 1000000 fault.Bound bound-lawful s size (c .target) (whole .target) (facts .1 .1) target,
+        fill-of s f in-front zeros,
+      )
+
+  -- what is read behind the two numbers is written behind them
+  body-spells : (n m p : ℕ) → Spells s 0 (fieldBits 3 n ++ fieldBits 6 m) p
+      → Gives (λ c q. Spells s 0 (filled (caseBits c)) (8 * length s)) (body s n (m + 1) p)
+  unfolding body bounds entriesBits flatMap
+  body-spells n m p head =
+      then-gives (rows-spell s n (n * n) n p p [] (end p (omega (arith, ends head))) (omega arith)) (λ times a t.
+      then-gives (slots-spell 21 1000000 fault.Bound bound-lawful s (patternSize n) a (omega (arith, ends (t .0)))) (λ start b u.
+      then-gives (slots-spell 21 1000000 fault.Bound bound-lawful s (patternSize n) b (omega (arith, ends (u .0)))) (λ target c v.
+      then-gives (fill-spells s c (join (join head (t .0)) (join (u .0) (v .0)))) (λ z d r.
+      value {q = d} (rw (made n m times start target (t .1) (u .1) (v .1)) r)))))
+
+  -- the bits that a case is read from are its bits, and the fill
+  pub parse-spells : Gives (λ c q. Spells s 0 (filled (caseBits c)) (8 * length s)) (parse s)
+  unfolding parse
+  parse-spells =
+      then-gives (bits-spell s 3 0 0) (λ n a x.
+      test-gives (eqb n 0) (λ t. no-value) (λ t.
+      then-gives (bits-spell s 6 a a) (λ m b y.
+      body-spells n m b (join (x .0) (y .0)))))

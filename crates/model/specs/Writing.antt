@@ -1,0 +1,111 @@
+-- The writer of packed cases, request [1]: document 01's packed case the other way round. Bits are listed in file order, each 0 or 1.
+use Prim.Native.Nat.{ℕ, suc, _+_, _-_, _*_, _/_, _%_, _^_}
+use mathlib.Core.List.{List, [], _∷_, _++_, map, flatMap}
+use mathlib.Core.Bool.{Bool, cond}
+use mathlib.Core.Option.{Option, none, some}
+use lib.ListN.{length, getD, take, drop}
+use lib.Dec.{ltb}
+use lib.IntN.{ℤ, pos, negsuc}
+use Rattle.model.specs.declared.Slot.{Slot}
+use Rattle.model.specs.declared.Case.{Case}
+use Rattle.model.specs.declared.Written.{Written}
+use Rattle.model.specs.declared.Written.the-variants as written
+use Rattle.model.specs.declared.Fault.{Fault}
+use Rattle.model.specs.declared.Fault.the-variants as fault
+use Rattle.model.specs.Lists.{tabulate, when, orElse}
+use Rattle.model.specs.Faults.{nothing, present, beyond, patternSize, caseFault}
+use Rattle.model.specs.Packed.{numOf, signed, caseOf}
+
+-- ---- bits and bytes
+-- the w bits of v, the most significant first
+unfoldable pub fieldBits : ℕ → ℕ → List ℕ
+fieldBits w v = tabulate w 0 (λ j. v / 2 ^ (w - 1 - j) % 2)
+
+-- eight bits to a byte; zero bits after the last one up to a whole byte, and no byte more
+unfoldable pub bytesOf : List ℕ → List ℕ
+bytesOf bs = tabulate ((length bs + 7) / 8) 0 (λ i. numOf (λ q. getD bs q 0) (8 * i) 8)
+
+-- two's complement, half being the weight of the sign bit: back from `signed`
+unfoldable pub rawOf : ℕ → ℤ → ℕ
+rawOf half (pos v) = v
+rawOf half (negsuc v) = half * 2 - suc v
+
+-- ---- entries
+-- a kind of entry: how many bits follow its presence bit, what an absent one is, whether one is present,
+-- what the number that these bits spell stands for, the number of an entry, and the fault of an entry at a place
+pub record Kind (A : Type 0) : Type 0 where
+  pub width : ℕ
+  pub absent : A
+  pub has : A → Bool
+  pub value : ℕ → A
+  pub raw : A → ℕ
+  pub judge : ℕ → A → Option Fault
+
+-- the entries that the reader's `entry` reads with the same width, limit and fault
+abbrev pub slotKind : ℕ → ℕ → (ℕ → Fault) → Kind Slot
+slotKind w limit f = record {
+  width = w;
+  absent = nothing;
+  has = λ e. e .has;
+  value = λ raw. present (signed (2 ^ (w - 1)) raw);
+  raw = λ e. rawOf (2 ^ (w - 1)) (e .value .0);
+  judge = λ p e. when (beyond limit e) (f p);
+}
+
+abbrev pub timeKind : Kind Slot
+timeKind = slotKind 18 86400 fault.Time
+
+abbrev pub boundKind : Kind Slot
+boundKind = slotKind 21 1000000 fault.Bound
+
+-- a presence bit, then the value if it is 1
+unfoldable pub entryBits : {A : Type 0} → Kind A → A → List ℕ
+entryBits k e = cond (k .has e) (1 ∷ fieldBits (k .width) (k .raw e)) (0 ∷ [])
+
+-- one entry after the other
+unfoldable pub entriesBits : {A : Type 0} → Kind A → List A → List ℕ
+entriesBits k es = flatMap (entryBits k) es
+
+-- ---- the case
+-- the bounds of the start, then those of the target
+abbrev pub allBounds : Case → List Slot
+allBounds c = take (patternSize (c .n)) (c .start) ++ take (patternSize (c .n)) (c .target)
+
+-- document 01's fields: n, 3 bits; N - 1, 6 bits; A row by row; start; target
+unfoldable pub caseBits : Case → List ℕ
+caseBits c =
+    fieldBits 3 (c .n) ++ fieldBits 6 (c .horizon .0 - 1) ++ entriesBits timeKind (take (c .n * c .n) (c .times)) ++ entriesBits boundKind (allBounds c)
+
+-- the packed case
+unfoldable pub packedBytes : Case → List ℕ
+packedBytes c = bytesOf (caseBits c)
+
+-- the entry, without its value where that is marked absent
+abbrev pub tidy : {A : Type 0} → Kind A → A → A
+tidy k e = cond (k .has e) e (k .absent)
+
+-- the case without what document 01 ignores: values marked absent, and entries beyond n
+unfoldable pub tidied : Case → Case
+tidied c =
+    let size = patternSize (c .n) in
+    caseOf (c .n) (c .horizon .0)
+    (map (tidy timeKind) (take (c .n * c .n) (c .times))) (map (tidy boundKind) (take size (c .start))) (map (tidy boundKind) (take size (c .target)))
+
+-- ---- what a writer answers, and what the output holds afterwards
+-- fault 14: an output of this length is too short for the bytes
+unfoldable pub roomFor : List ℕ → ℕ → Option Fault
+roomFor bytes size = when (ltb size (length bytes)) (fault.Output (length bytes))
+
+-- the first fault of writing a case: the case, the length of the output
+unfoldable pub writeFault : Case → ℕ → Option Fault
+writeFault c size = orElse (caseFault c) (roomFor (packedBytes c) size)
+
+-- the number of bytes, if there is no fault
+unfoldable pub told : Option Fault → List ℕ → Written
+told (some f) bytes = written.Refused f
+told none bytes = written.Bytes (length bytes)
+
+-- the bytes, and what stood in the output behind them; on a fault the output as it was
+unfoldable pub outputAfter : Option Fault → List ℕ → List ℕ → List ℕ
+outputAfter (some f) bytes out = out
+outputAfter none bytes out = bytes ++ drop (length bytes) out

@@ -1,0 +1,212 @@
+// Writes a packed case: a pen by value, fields most significant bit first, entries in file order. Nothing is written before the last fault is excluded.
+ghost use mathlib.Core.Path.{_≡_};
+ghost use mathlib.Core.List.{_++_};
+ghost use mathlib.Core.Option.{none};
+ghost use Prim.Native.Nat.{_+_, _-_, _*_, _^_, _≤_, _<_};
+ghost use lib.ListN.{length, take, drop};
+ghost use lib.IntN.{natAbs};
+ghost use Rattle.model.specs.Faults.{caseFault};
+ghost use Rattle.model.specs.Writing.{fieldBits, rawOf, entryBits, entriesBits, caseBits, packedBytes, writeFault, told, outputAfter};
+ghost use Rattle.packer.specs.Ink.{Ready, Inks, Filled, Horizon, ofWidth, Width, Narrow, AllIn, patternsBits};
+use ints::Cycle;
+use ints::Seconds;
+use model::BOUNDS;
+use model::Case;
+use model::Fault;
+use model::Judged;
+use model::Slot;
+use model::TIMES;
+use model::Written;
+
+const NOTHING: Slot = Slot {
+    has: false,
+    value: Seconds(0),
+};
+
+// How far the writing got: the bytes that are full, how many bits are held for the next one, and the number that these spell.
+struct Pen {
+    full: usize,
+    held: usize,
+    part: u32,
+}
+
+// The number that spells the value in two's complement, half being the weight of the sign bit.
+fn raw(value: Seconds, half: u32) -> u32
+    requires { ⌜ (half ≤ 2 ^ 30) × (natAbs (value .0) < half) ⌝ }
+    ensures { λ r. ⌜ r ≡ rawOf half (value .0) ⌝ }
+{
+    let seconds = value.0;
+    if seconds < 0 {
+        half * 2 - (-seconds) as u32
+    } else {
+        seconds as u32
+    }
+}
+
+impl Pen {
+    // The bits of a number. Each byte that is full is stored.
+    fn bits(self, out: &mut [u8], width: usize, value: u32) -> Pen
+        requires { ⌜ Ready width self (now out) × (width ≤ 24) × (value < 2 ^ width) ⌝ }
+        ensures { λ r. ⌜ Inks (fieldBits width value) self (now (out .entry)) r (now (out .exit)) ⌝ }
+    {
+        let mut full = self.full;
+        let mut held = self.held + width;
+        let mut part = (self.part << width) + value;
+        while 8 <= held {
+            held -= 8;
+            out[full] = (part >> held) as u8;
+            part = part % (1 << held);
+            full += 1;
+        }
+        Pen { full, held, part }
+    }
+
+    // An entry: a presence bit, then the value if it is 1.
+    fn entry(self, out: &mut [u8], slot: Slot, width: usize) -> Pen
+        requires { ⌜ Ready (length (entryBits (ofWidth width) slot)) self (now out) × Width width × Narrow width slot ⌝ }
+        ensures { λ r. ⌜ Inks (entryBits (ofWidth width) slot) self (now (out .entry)) r (now (out .exit)) ⌝ }
+    {
+        if !slot.has {
+            return self.bits(out, 1, 0);
+        }
+        let value = slot.value;
+        let number = raw(value, 1 << (width - 1));
+        let pen = self.bits(out, 1, 1);
+        pen.bits(out, width, number)
+    }
+
+    // The first entries of an array, one after the other.
+    fn entries(self, out: &mut [u8], slots: [Slot; BOUNDS], count: usize, width: usize) -> Pen
+        requires { ⌜ Ready (length (entriesBits (ofWidth width) (take count slots))) self (now out) × Width width × AllIn width count slots ⌝ }
+        ensures { λ r. ⌜ Inks (entriesBits (ofWidth width) (take count slots)) self (now (out .entry)) r (now (out .exit)) ⌝ }
+    {
+        let mut pen = self;
+        for i in 0..count {
+            let slot = slots[i];
+            pen = pen.entry(out, slot, width);
+        }
+        pen
+    }
+
+    // The two numbers in front.
+    fn head(self, out: &mut [u8], n: usize, horizon: Cycle) -> Pen
+        requires { ⌜ Ready 9 self (now out) × (n < 8) × Horizon (horizon .0) ⌝ }
+        ensures { λ r. ⌜ Inks (fieldBits 3 n ++ fieldBits 6 (horizon .0 - 1)) self (now (out .entry)) r (now (out .exit)) ⌝ }
+    {
+        let pen = self.bits(out, 3, n as u32);
+        pen.bits(out, 6, (horizon.0 - 1) as u32)
+    }
+
+    // The bounds of the start, then those of the target.
+    fn patterns(
+        self,
+        out: &mut [u8],
+        start: [Slot; BOUNDS],
+        target: [Slot; BOUNDS],
+        size: usize,
+    ) -> Pen
+        requires { ⌜ Ready (length (patternsBits size start target)) self (now out) × AllIn 21 size start × AllIn 21 size target ⌝ }
+        ensures { λ r. ⌜ Inks (patternsBits size start target) self (now (out .entry)) r (now (out .exit)) ⌝ }
+    {
+        let pen = self.entries(out, start, size, 21);
+        pen.entries(out, target, size, 21)
+    }
+
+    // Zero bits up to a whole byte.
+    fn fill(self, out: &mut [u8])
+        requires { ⌜ Ready 0 self (now out) ⌝ }
+        ensures { λ _. ⌜ Filled self (now (out .entry)) (now (out .exit)) ⌝ }
+    {
+        let held = self.held;
+        self.bits(out, (8 - held) % 8, 0);
+    }
+}
+
+// The bits that an entry takes.
+fn entry_length(slot: Slot, width: usize) -> usize
+    requires { ⌜ width ≤ 24 ⌝ }
+    ensures { λ r. ⌜ (r ≡ length (entryBits (ofWidth width) slot)) × (r ≤ 25) ⌝ }
+{
+    if slot.has { 1 + width } else { 1 }
+}
+
+// The bits that the first entries of an array take.
+fn entries_length(slots: [Slot; BOUNDS], count: usize, width: usize) -> usize
+    requires { ⌜ (count ≤ 56) × (width ≤ 24) ⌝ }
+    ensures { λ r. ⌜ (r ≡ length (entriesBits (ofWidth width) (take count slots))) × (r ≤ 25 * count) ⌝ }
+{
+    let mut total: usize = 0;
+    for i in 0..count {
+        let slot = slots[i];
+        total += entry_length(slot, width);
+    }
+    total
+}
+
+// The table's entries in an array as long as a pattern's.
+fn widened(times: [Slot; TIMES]) -> [Slot; BOUNDS]
+    ensures { λ r. ⌜ take 49 r ≡ times ⌝ }
+{
+    let mut slots = [NOTHING; BOUNDS];
+    for i in 0..TIMES {
+        let slot = times[i];
+        slots[i] = slot;
+    }
+    slots
+}
+
+// The bits of a case.
+fn case_length(case: Case) -> usize
+    requires { ⌜ caseFault case ≡ none ⌝ }
+    ensures { λ r. ⌜ (r ≡ length (caseBits case)) × (r ≤ 8192) ⌝ }
+{
+    let table = case.times;
+    let times = widened(table);
+    let n = case.n;
+    let size = n * (n + 1);
+    let start = case.start;
+    let target = case.target;
+    9
+        + entries_length(times, n * n, 18)
+        + entries_length(start, size, 21)
+        + entries_length(target, size, 21)
+}
+
+// The packed bytes of a case without a fault, for which the output has room.
+fn put_case(case: Case, out: &mut [u8])
+    requires { ⌜ (caseFault case ≡ none) × (length (packedBytes case) ≤ length (now out)) ⌝ }
+    ensures { λ _. ⌜ now (out .exit) ≡ packedBytes case ++ drop (length (packedBytes case)) (now (out .entry)) ⌝ }
+{
+    let table = case.times;
+    let times = widened(table);
+    let n = case.n;
+    let horizon = case.horizon;
+    let size = n * (n + 1);
+    let start = case.start;
+    let target = case.target;
+    let pen = Pen {
+        full: 0,
+        held: 0,
+        part: 0,
+    };
+    let after_head = pen.head(out, n, horizon);
+    let after_times = after_head.entries(out, times, n * n, 18);
+    let after_patterns = after_times.patterns(out, start, target, size);
+    after_patterns.fill(out);
+}
+
+// The packed bytes of a case in front of the output, and how many they are. What stands behind them stays as it was; on a fault everything does.
+pub fn write(case: Case, out: &mut [u8]) -> Written
+    ensures { λ r. ⌜ r ≡ told (writeFault case (length (now (out .entry)))) (packedBytes case) ⌝ }
+    ensures { λ _. ⌜ now (out .exit) ≡ outputAfter (writeFault case (length (now (out .entry)))) (packedBytes case) (now (out .entry)) ⌝ }
+{
+    if let Judged::Refused(f) = judge::case_fault(case) {
+        return Written::Refused(f);
+    }
+    let needed = (case_length(case) + 7) / 8;
+    if out.len() < needed {
+        return Written::Refused(Fault::Output(needed));
+    }
+    put_case(case, out);
+    Written::Bytes(needed)
+}
