@@ -146,6 +146,42 @@ fn damaged_cases() {
     }
 }
 
+/// What is done to a case of two departures, and the fault that it is, in the
+/// order in which faults are judged.
+const DAMAGES: [(fn(&mut Case), usize, usize); 7] = [
+    (|case| case.n = 8, 2, 0),
+    (|case| case.horizon = 65, 3, 0),
+    (|case| case.times[1] = Some(-86_401), 4, 1),
+    (|case| case.times[2..4].fill(None), 5, 2),
+    (|case| case.start[0] = Some(1_000_001), 6, 0),
+    (|case| case.start[5] = Some(-1_000_001), 6, 5),
+    (|case| case.target[5] = Some(1_000_001), 6, 11),
+];
+
+/// Each fault of a case alone and with each later one, with an output that is
+/// long enough, one byte short and empty: the first is told.
+#[test]
+fn pairs_of_faults() {
+    let mut random = Random::new(4_400_000);
+    let mut whole = Case::empty(2, 3);
+    whole.times[..4].copy_from_slice(&[Some(2), Some(5), Some(3), Some(3)]);
+    let size = whole.pack().len();
+    for (at, (damage, number, returned)) in DAMAGES.into_iter().enumerate() {
+        for (other, ..) in &DAMAGES[at..] {
+            let mut case = whole;
+            damage(&mut case);
+            other(&mut case);
+            for length in [500, size - 1, 0] {
+                let mut output = Output::new(&mut random, length);
+                let written = archive::write(&case, output.part());
+                let fault = Fault { number, returned };
+                assert_eq!(written, Ok(Err(fault)), "{length} lent, {case:?}");
+                assert!(output.holds(&[]), "{length} lent, {case:?}");
+            }
+        }
+    }
+}
+
 #[test]
 fn damaged_bytes() {
     let mut counts = [0; 15];

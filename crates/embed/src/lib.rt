@@ -1,4 +1,4 @@
-// The library for C and Rust: verdicts and runs on numbers and lent arrays. No function asks anything of its caller.
+// The library for C and Rust: verdicts, runs, packed cases written and read, on numbers and lent arrays. No function asks anything of its caller.
 ghost use mathlib.Core.Path.{_≡_};
 ghost use mathlib.Core.List.{_++_};
 ghost use Prim.Native.Nat.{_+_, _≤_, _<_};

@@ -78,7 +78,8 @@ module _ (k : Kind Slot) where
   entries-room es i n h l =
       let m = i + 1 in
       let e : n ≡ m + (n - m) = omega arith in
-      let all = ap (λ (j : ℕ). entriesBits k (take j es)) e ∙ ap (entriesBits k) (take-add m (n - m) es) ∙ entries-append (take m es) (take (n - m) (drop m es)) in
+      let parts = ap (entriesBits k) (take-add m (n - m) es) ∙ entries-append (take m es) (take (n - m) (drop m es)) in
+      let all = ap (λ (j : ℕ). entriesBits k (take j es)) e ∙ parts in
       omega (arith, simp length-append at (ap length (entries-next es i h)), simp length-append at (ap length all))
 
 -- one of the first count

@@ -72,6 +72,6 @@ abbrev pub pastBy : End → Outcome
 pastBy (end.Clear horizon) = clear (horizon .0)
 pastBy end.Never = never
 
--- the answer of a search over so many cycles
+-- the answer of a search over so many cycles. Free: what the workspace holds afterwards; its length is unchanged
 abbrev pub Searched : Network → ℕ → ℕ → End → Answer → Type 0
 Searched w capacity cycles end r = r ≡ answered (searchFrom w capacity cycles 1 (lists w 0) (pastBy end))

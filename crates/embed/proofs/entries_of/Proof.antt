@@ -15,7 +15,8 @@ use Rattle.embed.proofs.entries_of.Tie as tie
 
 abbrev Inv-loop : tie.InvT-loop
 Inv-loop times start target present₀ values₀ k₀ present values k =
-    Copied (λ (e : Slot). cond (e .has) 1 0) 161 ((times ++ start) ++ target) present k × Copied (λ (e : Slot). e .value .0) 161 ((times ++ start) ++ target) values k
+    Copied (λ (e : Slot). cond (e .has) 1 0) 161 ((times ++ start) ++ target) present k
+    × Copied (λ (e : Slot). e .value .0) 161 ((times ++ start) ++ target) values k
 
 abbrev μ-loop : tie.MeasureT-loop
 μ-loop times start target present₀ values₀ k₀ present values k = 161 - k
@@ -82,7 +83,8 @@ loop-again c =
     let l = j .before .before .loop in
     let a = j .before .before .before .args in
     let long : length ((a .t1 ++ a .t2) ++ a .t3) ≡ 161 = omega (arith, length-append (a .t1 ++ a .t2) (a .t3), length-append (a .t1) (a .t2)) in
-    let flag : c .before .if3 .present ≡ cond (j .if1 .slot .has) 1 0 = ⊎-elim (λ w. rw (w .0 .taken) (w .1)) (λ w. rw (w .0 .left) (w .1)) (c .before .if3 .came) in (
+    let came = c .before .if3 .came in
+    let flag : c .before .if3 .present ≡ cond (j .if1 .slot .has) 1 0 = ⊎-elim (λ w. rw (w .0 .taken) (w .1)) (λ w. rw (w .0 .left) (w .1)) came in (
       copied-more _ 161 _ _ (l .k) nothing _ long (l .inv .0) (j .before .loop-test .taken) (flag ∙ ap (λ (e : Slot). cond (e .has) 1 0) (entry-is j)),
       copied-more _ 161 _ _ (l .k) nothing _ long (l .inv .1) (j .before .loop-test .taken) (rw (← (entry-is j)) (search needs)),
     )

@@ -21,7 +21,8 @@ returns c =
     let w = c .before .before .before in
     let e = w .before .before .before in
     let r = e .before .before .before .before .before .before in
-    rw (← (r .read .ensures)) (rw (w .with-count .ensures) at (c .tell-written .ensures), record { departures = refl; cycles = refl; entries = e .entries-of .ensures })
+    rw (← (r .read .ensures))
+    (rw (w .with-count .ensures) at (c .tell-written .ensures), record { departures = refl; cycles = refl; entries = e .entries-of .ensures })
 
 pub tramcheck-read-spec : {M : Type 1} → statement M
 tramcheck-read-spec =
