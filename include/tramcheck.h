@@ -6,10 +6,10 @@
  * 384 KiB of the stack.
  *
  * Each function returns what the verdict is and sets
- *   *fault    the fault's number, 1 to 14, where it is TRAMCHECK_REFUSED, else 0;
+ *   *fault    the fault's number, 1 to 15, where it is TRAMCHECK_REFUSED, else 0;
  *   *value    k for TRAMCHECK_REACHED, N for TRAMCHECK_CLEAR, 0 for TRAMCHECK_NEVER, what the fault returns for TRAMCHECK_REFUSED:
  *             its place, the cycle of 11 (table full) and 12 (bound too large), the departure of 13, the bytes needed of 14, or 0;
- *             the number of bytes for TRAMCHECK_DONE, which the writer and the reader return;
+ *             for TRAMCHECK_DONE the number of bytes written or read, 0 for a change committed;
  *   the seven times  the start that reaches the target, departures 1 to n first; 0 beyond n and for every other verdict.
  */
 #ifndef TRAMCHECK_H
@@ -52,6 +52,19 @@ uint32_t tramcheck_verdict(const uint8_t *bytes, size_t length, size_t capacity,
 uint32_t tramcheck_verdict_unpacked(size_t n, size_t horizon, const uint8_t present[TRAMCHECK_ENTRIES],
                                     const int64_t values[TRAMCHECK_ENTRIES], size_t capacity, int32_t *work, size_t work_length,
                                     size_t *fault, size_t *value, int64_t start[TRAMCHECK_DEPARTURES]);
+
+/* The verdict on an unpacked case with the time in one row and column, both counted from 1, replaced, or blanked where has is 0. Faults in this order: the
+ * case's own, 2 to 6, in the entry that would be replaced too; 15 for a row or column outside 1 to n; of the changed time 4 or 5; 9; 10. The arrays are only
+ * read; the workspace is left as it was by all of these, and all zero otherwise. */
+uint32_t tramcheck_preview(size_t n, size_t horizon, const uint8_t present[TRAMCHECK_ENTRIES], const int64_t values[TRAMCHECK_ENTRIES],
+                           size_t row, size_t column, uint8_t has, int64_t time, size_t capacity, int32_t *work, size_t work_length,
+                           size_t *fault, size_t *value, int64_t start[TRAMCHECK_DEPARTURES]);
+
+/* Changes that time where it stands, at (row - 1) * n + (column - 1): present is set to 1, or to 0 where has is 0, and values to time; every other number
+ * of both arrays stays as it was. Returns TRAMCHECK_DONE, with 0 in *value, or TRAMCHECK_REFUSED for the faults that a preview judges before 9; a refusal
+ * leaves both arrays as they were. */
+uint32_t tramcheck_commit(size_t n, size_t horizon, uint8_t present[TRAMCHECK_ENTRIES], int64_t values[TRAMCHECK_ENTRIES], size_t row,
+                          size_t column, uint8_t has, int64_t time, size_t *fault, size_t *value);
 
 /* A run: the times of a cycle from 0 to 64, from start times on. Returns TRAMCHECK_REACHED, with the cycle in *value and its times in times, or
  * TRAMCHECK_REFUSED. Patterns are ignored. */

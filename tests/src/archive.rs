@@ -3,7 +3,7 @@
 
 use crate::case::{Case, Entries, Times, ENTRIES};
 
-/// A fault's number, 1 to 14, and what is returned with it.
+/// A fault's number, 1 to 15, and what is returned with it.
 #[derive(Clone, Copy, Debug, PartialEq, Eq)]
 pub struct Fault {
     pub number: usize,
@@ -41,6 +41,16 @@ pub struct Reading {
     pub n: usize,
     pub horizon: usize,
     pub entries: Entries,
+}
+
+/// A change of one time of the table. Row and column count from 1. The entry
+/// becomes `time`, or blank where `has` is 0.
+#[derive(Clone, Copy, Debug, PartialEq, Eq)]
+pub struct Change {
+    pub row: usize,
+    pub column: usize,
+    pub has: u8,
+    pub time: i64,
 }
 
 /// Numbers that stand for no outcome; the archive never returns them.
@@ -104,6 +114,34 @@ extern "C" {
         fault: *mut usize,
         value: *mut usize,
     ) -> u32;
+    fn tramcheck_preview(
+        n: usize,
+        horizon: usize,
+        present: *const u8,
+        values: *const i64,
+        row: usize,
+        column: usize,
+        has: u8,
+        time: i64,
+        capacity: usize,
+        work: *mut i32,
+        work_length: usize,
+        fault: *mut usize,
+        value: *mut usize,
+        start: *mut i64,
+    ) -> u32;
+    fn tramcheck_commit(
+        n: usize,
+        horizon: usize,
+        present: *mut u8,
+        values: *mut i64,
+        row: usize,
+        column: usize,
+        has: u8,
+        time: i64,
+        fault: *mut usize,
+        value: *mut usize,
+    ) -> u32;
 }
 
 /// Where the archive writes its results. Every call writes all of them; the
@@ -126,7 +164,7 @@ impl Results {
     /// The verdict that the returned kind and the numbers stand for.
     fn answer(&self, kind: u32) -> Result<Answer, Unknown> {
         let verdict = match (kind, self.fault, self.value) {
-            (0, number @ 1..=12, returned) => Verdict::Refused(Fault { number, returned }),
+            (0, number @ (1..=12 | 15), returned) => Verdict::Refused(Fault { number, returned }),
             (1, 0, cycle) => Verdict::Reached { cycle },
             (2, 0, horizon) => Verdict::Clear { horizon },
             (3, 0, 0) => Verdict::Never,
@@ -152,6 +190,15 @@ impl Results {
         match (kind, self.fault, self.value) {
             (0, number @ (1..=8 | 14), returned) => Ok(Err(Fault { number, returned })),
             (4, 0, count) => Ok(Ok(count)),
+            (kind, fault, value) => Err(Unknown { kind, fault, value }),
+        }
+    }
+
+    /// Whether a change was committed, or the fault.
+    fn committed(&self, kind: u32) -> Result<Result<(), Fault>, Unknown> {
+        match (kind, self.fault, self.value) {
+            (0, number @ (2..=6 | 15), returned) => Ok(Err(Fault { number, returned })),
+            (4, 0, 0) => Ok(Ok(())),
             (kind, fault, value) => Err(Unknown { kind, fault, value }),
         }
     }
@@ -297,4 +344,63 @@ pub fn read(bytes: &[u8]) -> Result<Reading, Unknown> {
         horizon,
         entries,
     })
+}
+
+/// The verdict on a copy of an unpacked case with one time changed.
+pub fn preview(
+    n: usize,
+    horizon: usize,
+    entries: &Entries,
+    change: &Change,
+    capacity: usize,
+    work: &mut [i32],
+) -> Result<Answer, Unknown> {
+    let mut results = Results::new();
+    // The pointers are good as in `verdict`; both arrays have 161 places.
+    let kind = unsafe {
+        tramcheck_preview(
+            n,
+            horizon,
+            entries.present.as_ptr(),
+            entries.values.as_ptr(),
+            change.row,
+            change.column,
+            change.has,
+            change.time,
+            capacity,
+            work.as_mut_ptr(),
+            work.len(),
+            &mut results.fault,
+            &mut results.value,
+            results.times.as_mut_ptr(),
+        )
+    };
+    results.answer(kind)
+}
+
+/// Changes one time of an unpacked case, or tells the fault and leaves the
+/// entries as they were.
+pub fn commit(
+    n: usize,
+    horizon: usize,
+    entries: &mut Entries,
+    change: &Change,
+) -> Result<Result<(), Fault>, Unknown> {
+    let mut results = Results::new();
+    // The pointers are good as in `verdict`; both arrays have 161 places.
+    let kind = unsafe {
+        tramcheck_commit(
+            n,
+            horizon,
+            entries.present.as_mut_ptr(),
+            entries.values.as_mut_ptr(),
+            change.row,
+            change.column,
+            change.has,
+            change.time,
+            &mut results.fault,
+            &mut results.value,
+        )
+    };
+    results.committed(kind)
 }

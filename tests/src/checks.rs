@@ -78,7 +78,7 @@ impl Lent {
     }
 
     /// Whether the workspace is as it must be after such an answer: as it was
-    /// after faults 1 to 10, all zero after every other answer.
+    /// after faults 1 to 10 and 15, all zero after every other answer.
     pub fn right_after(&self, answer: &Answer) -> Result<(), String> {
         let (first, last) = (GUARD, self.all.len() - GUARD);
         if self.all[..first] != self.before[..first] || self.all[last..] != self.before[last..] {
@@ -86,8 +86,8 @@ impl Lent {
         }
         let (lent, before) = (&self.all[first..last], &self.before[first..last]);
         match fault_number(answer) {
-            1..=10 if lent != before => Err("the workspace was changed".to_string()),
-            1..=10 => Ok(()),
+            1..=10 | 15 if lent != before => Err("the workspace was changed".to_string()),
+            1..=10 | 15 => Ok(()),
             _ => match lent.iter().position(|&number| number != 0) {
                 Some(place) => Err(format!("number {place} of {} is not 0", lent.len())),
                 None => Ok(()),

@@ -1,8 +1,9 @@
-//! Random damage to packed cases, unpacked cases and runs.
+//! Random damage to packed cases, unpacked cases, runs and changes.
 
+use crate::archive::Change;
 use crate::case::{Case, Times};
 use crate::faults;
-use crate::random::{bearable, trial, Random};
+use crate::random::{bearable, trial, Random, Trial};
 
 /// A call on packed bytes.
 pub struct PackedCall {
@@ -12,6 +13,7 @@ pub struct PackedCall {
 }
 
 /// A call on an unpacked case.
+#[derive(Debug)]
 pub struct UnpackedCall {
     pub case: Case,
     pub capacity: usize,
@@ -23,6 +25,13 @@ pub struct RunCall {
     pub case: Case,
     pub start: Times,
     pub cycle: usize,
+}
+
+/// A change of one time of an unpacked case.
+#[derive(Debug)]
+pub struct ChangeCall {
+    pub call: UnpackedCall,
+    pub change: Change,
 }
 
 /// A number at a limit, just beyond it, or at the end of a field's range.
@@ -182,6 +191,44 @@ pub fn unpacked(random: &mut Random) -> UnpackedCall {
             };
         }
     }
+}
+
+/// A row or a column, sometimes outside the table.
+fn line(random: &mut Random, n: usize) -> usize {
+    match random.below(16) {
+        0 => random.one_of(&[0, n + 1, 8, 257, (1 << 32) + 1, usize::MAX]),
+        _ => 1 + random.below(n),
+    }
+}
+
+/// A time or a blank for any entry of the table, sometimes beyond a limit.
+fn change(random: &mut Random, n: usize) -> Change {
+    let size = random.one_of(&[3, 90, 86_400]);
+    Change {
+        row: line(random, n),
+        column: line(random, n),
+        has: random.one_of(&[0, 0, 1, 1, 2, 255]),
+        time: match random.below(4) {
+            0 => far(random, 86_400),
+            _ => random.between(-size, size),
+        },
+    }
+}
+
+/// A change in an unpacked call, with damage to every third call.
+pub fn changed(random: &mut Random) -> ChangeCall {
+    let call = if random.chance(1, 3) {
+        unpacked(random)
+    } else {
+        let Trial { case, capacity, .. } = trial(random);
+        UnpackedCall {
+            case,
+            capacity,
+            work_length: faults::workspace(case.n, capacity) + random.below(3),
+        }
+    };
+    let change = change(random, call.case.n.clamp(1, 7));
+    ChangeCall { call, change }
 }
 
 /// A run, with damage to its case, its cycle or its start times.

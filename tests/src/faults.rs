@@ -1,6 +1,6 @@
 //! The faults, in the order in which they are judged.
 
-use crate::archive::Fault;
+use crate::archive::{Change, Fault};
 use crate::case::{Case, Times};
 
 fn fault(number: usize, returned: usize) -> Fault {
@@ -169,6 +169,42 @@ pub fn of_call(n: usize, capacity: usize, work_length: usize) -> Result<(), Faul
         return Err(fault(10, 0));
     }
     Ok(())
+}
+
+/// The place of the entry that would be changed, or the case's own faults 2 to
+/// 6, then 15.
+pub fn of_change(case: &Case, change: &Change) -> Result<usize, Fault> {
+    of_case(case)?;
+    let inside = |line: usize| (1..=case.n).contains(&line);
+    if !inside(change.row) || !inside(change.column) {
+        return Err(fault(15, 0));
+    }
+    Ok((change.row - 1) * case.n + change.column - 1)
+}
+
+/// The faults of a commit: the same, then 4 of the changed time or 5 of its row.
+pub fn of_commit(case: &Case, change: &Change) -> Result<(), Fault> {
+    let place = of_change(case, change)?;
+    let first = place + 1 - change.column;
+    let other = |p: usize| p != place && case.times[p].is_some();
+    if change.has != 0 && !(-86_400..=86_400).contains(&change.time) {
+        return Err(fault(4, place));
+    }
+    if change.has == 0 && !(first..first + case.n).any(other) {
+        return Err(fault(5, first));
+    }
+    Ok(())
+}
+
+/// The faults of a preview: those of a commit, then 9 and 10.
+pub fn of_preview(
+    case: &Case,
+    change: &Change,
+    capacity: usize,
+    work_length: usize,
+) -> Result<(), Fault> {
+    of_commit(case, change)?;
+    of_call(case.n, capacity, work_length)
 }
 
 /// The faults of a run: 2, 3 for its cycle, 4, 5 and 13.

@@ -91,5 +91,26 @@ int main(void)
                            &value);
     printf("%u %zu %zu\n", (unsigned)kind, fault, value);
     printf("%d\n", TRAMCHECK_DONE);
+
+    /* From 0 to 90 in one cycle: not with a time of 60, but with 90, as a
+     * preview tells before the commit. The row may not be emptied. */
+    memset(present + TRAMCHECK_START, 1, 2);
+    memset(present + TRAMCHECK_TARGET, 1, 2);
+    values[TRAMCHECK_TARGET] = -90;
+    values[TRAMCHECK_TARGET + 1] = 90;
+    kind = tramcheck_preview(n, horizon, present, values, 1, 1, 1, 60, ZONES,
+                             work, TRAMCHECK_WORKSPACE(ZONES), &fault, &value,
+                             times);
+    print_line(kind, fault, value, times);
+    kind = tramcheck_preview(n, horizon, present, values, 1, 1, 1, 90, ZONES,
+                             work, TRAMCHECK_WORKSPACE(ZONES), &fault, &value,
+                             times);
+    print_line(kind, fault, value, times);
+    for (int blank = 0; blank < 2; blank++) {
+        kind = tramcheck_commit(n, horizon, present, values, 1, 1, !blank, 90,
+                                &fault, &value);
+        printf("%u %zu %zu: %u %lld\n", (unsigned)kind, fault, value,
+               present[0], (long long)values[0]);
+    }
     return 0;
 }

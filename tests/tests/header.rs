@@ -49,6 +49,10 @@ fn a_c_program_embeds_the_archive() {
 4 0 4: 0 5
 0 14 4
 4
+2 0 1 0 0 0 0 0 0 0
+1 0 1 0 0 0 0 0 0 0
+4 0 0: 1 90
+0 5 0: 1 90
 ";
     assert_eq!(String::from_utf8_lossy(&output.stdout), stated);
 }

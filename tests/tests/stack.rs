@@ -1,6 +1,6 @@
 //! The stack that a call takes, as the header states it.
 
-use evidence::archive;
+use evidence::archive::{self, Change};
 use evidence::faults::workspace;
 use evidence::random::{dense_trial, Random};
 use std::thread;
@@ -18,6 +18,19 @@ fn a_call_fits_the_stack_that_the_header_names() {
         let packed = archive::verdict(&bytes, 128, &mut work);
         let unpacked = archive::verdict_unpacked(&case, 128, &mut work);
         assert_eq!(packed, unpacked);
+        let change = Change {
+            row: 1,
+            column: 1,
+            has: 1,
+            time: case.times[0].expect("a table without a blank"),
+        };
+        let (n, horizon, mut entries) = (case.n, case.horizon, case.entries());
+        let preview = archive::preview(n, horizon, &entries, &change, 128, &mut work);
+        assert_eq!(preview, unpacked);
+        assert_eq!(
+            archive::commit(n, horizon, &mut entries, &change),
+            Ok(Ok(()))
+        );
         archive::run(&case, &[0; 7], 64).expect("a known outcome")
     };
     let thread = thread::Builder::new().stack_size(STACK);

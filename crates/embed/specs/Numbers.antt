@@ -5,7 +5,7 @@ use mathlib.Core.Bool.{not, cond}
 use mathlib.Core.List.{List, _++_, map}
 use lib.Dec.{eqb}
 use lib.IntN.{ℤ, pos}
-use lib.ListN.{length, getD}
+use lib.ListN.{length, getD, set}
 use Rattle.ints.specs.declared.Seconds.{Seconds}
 use Rattle.model.specs.declared.Slot.{Slot}
 use Rattle.model.specs.declared.Case.{Case}
@@ -21,6 +21,7 @@ use Rattle.model.specs.Lists.{tabulate}
 use Rattle.model.specs.Packed.{caseOf}
 use Rattle.model.specs.Answers.{seconds, cycleNumber, Numbers, numbersOf}
 use Rattle.model.specs.Writing.{packedBytes, writeFault, told, outputAfter}
+use Rattle.model.specs.Changes.{timePlace, commit}
 
 -- a run as an answer: its cycle is reached, with the times of that cycle
 abbrev pub runVerdict : Judged → ℕ → Verdict
@@ -57,9 +58,13 @@ abbrev pub withCount : Judged → ℕ → Written
 withCount (judged.Refused f) count = written.Refused f
 withCount judged.Accepted count = written.Bytes count
 
--- an entry of a case in two lent arrays: it is there where the first has another number than 0
+-- an entry of two numbers: it is there where the first is not 0
+abbrev pub slotOf : ℕ → ℤ → Slot
+slotOf has value = record { has = not (eqb has 0); value = seconds value }
+
+-- an entry of a case in two lent arrays
 unfoldable pub slotAt : List ℕ → List ℤ → ℕ → Slot
-slotAt present values k = record { has = not (eqb (getD present k 0) 0); value = seconds (getD values k (pos 0)) }
+slotAt present values k = slotOf (getD present k 0) (getD values k (pos 0))
 
 -- the table's 49 entries, then 56 of the start pattern, then 56 of the target pattern
 unfoldable pub caseIn : ℕ → ℕ → List ℕ → List ℤ → Case
@@ -67,9 +72,13 @@ caseIn n h present values =
     let entry = slotAt present values in
     caseOf n h (tabulate 49 0 entry) (tabulate 56 49 entry) (tabulate 56 105 entry)
 
--- entries handed back in two arrays: 1 in the first where one is there, else 0
+-- as which number an entry's presence is handed back
+abbrev pub flag : Slot → ℕ
+flag e = cond (e .has) 1 0
+
+-- entries handed back in two arrays
 pub record EntriesHanded (es : List Slot) (present : List ℕ) (values : List ℤ) : Type 0 where
-  pub presence : present ≡ map (λ e. cond (e .has) 1 0) es
+  pub presence : present ≡ map flag es
   pub numbers : values ≡ map (λ e. e .value .0) es
 
 -- a case handed back: its two numbers and its entries
@@ -82,3 +91,22 @@ pub record CaseHanded (c : Case) (n horizon : ℕ) (present : List ℕ) (values 
 pub record WrittenHanded (c : Case) (out : List ℕ) (returned first second : ℕ) (after : List ℕ) : Type 0 where
   pub numbers : Handed (writtenNumbers (told (writeFault c (length out)) (packedBytes c))) returned first second
   pub output : after ≡ outputAfter (writeFault c (length out)) (packedBytes c) out
+
+-- an entry put at place k of two arrays: what is stored, and what is there afterwards
+pub record EntryPut (k : ℕ) (e : Slot) (present : List ℕ) (values : List ℤ) (flags : List ℕ) (times : List ℤ) : Type 0 where
+  pub present-after : flags ≡ set present k (flag e)
+  pub values-after : times ≡ set values k (e .value .0)
+  pub there : slotAt flags times k ≡ e
+
+-- an array after a change of one place: as it was where that is refused
+unfoldable pub stored : {X : Type 0} → Judged → ℕ → X → List X → List X
+stored judged.Accepted k x xs = set xs k x
+stored (judged.Refused f) k x xs = xs
+
+-- a change committed to two arrays: the numbers handed back, the arrays afterwards, and the case that they then hold
+pub record CommitHanded (n h : ℕ) (present : List ℕ) (values : List ℤ) (row column : ℕ) (e : Slot)
+    (returned first second : ℕ) (flags : List ℕ) (times : List ℤ) : Type 0 where
+  pub numbers : Handed (writtenNumbers (withCount (commit (caseIn n h present values) row column e .judged) 0)) returned first second
+  pub present-after : flags ≡ stored (commit (caseIn n h present values) row column e .judged) (timePlace n row column) (flag e) present
+  pub values-after : times ≡ stored (commit (caseIn n h present values) row column e .judged) (timePlace n row column) (e .value .0) values
+  pub case-after : caseIn n h flags times ≡ commit (caseIn n h present values) row column e .case

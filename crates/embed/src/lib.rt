@@ -7,7 +7,10 @@ ghost use Rattle.model.specs.Lists.{padded, tabulate};
 ghost use Rattle.model.specs.Faults.{nothing};
 ghost use Rattle.model.specs.Packed.{parse};
 ghost use Rattle.model.specs.Answers.{answer, workspaceAfter, answerPacked, workspaceAfterPacked, unpacked, run};
-ghost use Rattle.embed.specs.Numbers.{Handed, Told, writtenNumbers, withCount, runVerdict, runAnswer, plainTimes, timesIn, slotAt, caseIn, EntriesHanded, CaseHanded, WrittenHanded};
+ghost use Rattle.model.specs.Changes.{preview, workspaceAfterPreview};
+ghost use Rattle.embed.specs.Numbers;
+ghost use Rattle.embed.specs.Numbers.{Handed, Told, writtenNumbers, withCount, runVerdict, runAnswer, plainTimes, timesIn};
+ghost use Rattle.embed.specs.Numbers.{slotOf, slotAt, caseIn, EntryPut, EntriesHanded, CaseHanded, WrittenHanded, CommitHanded};
 use ints::Cycle;
 use ints::Seconds;
 use model::Answer;
@@ -103,6 +106,30 @@ fn with_count(judged: Judged, count: usize) -> Written
     }
 }
 
+// 1 where an entry is there, else 0.
+fn flag(slot: Slot) -> u8
+    ensures { λ r. ⌜ r ≡ Numbers.flag slot ⌝ }
+{
+    if slot.has { 1 } else { 0 }
+}
+
+// Two arrays with one entry put into them.
+fn with_entry(present: [u8; ENTRIES], values: [i64; ENTRIES], k: usize, slot: Slot) -> Entries
+    requires { ⌜ k < 161 ⌝ }
+    ensures { λ r. ⌜ EntryPut k slot present values (r .present) (r .values) ⌝ }
+{
+    let mut flags = present;
+    let mut numbers = values;
+    let value = slot.value;
+    let number = value.0;
+    flags[k] = flag(slot);
+    numbers[k] = number;
+    Entries {
+        present: flags,
+        values: numbers,
+    }
+}
+
 // The entries of a case as two arrays.
 fn entries_of(times: [Slot; TIMES], start: [Slot; BOUNDS], target: [Slot; BOUNDS]) -> Entries
     ensures { λ r. ⌜ EntriesHanded ((times ++ start) ++ target) (r .present) (r .values) ⌝ }
@@ -118,8 +145,9 @@ fn entries_of(times: [Slot; TIMES], start: [Slot; BOUNDS], target: [Slot; BOUNDS
             target[k - TARGET]
         };
         let value = slot.value;
-        present[k] = if slot.has { 1 } else { 0 };
-        values[k] = value.0;
+        let number = value.0;
+        present[k] = flag(slot);
+        values[k] = number;
     }
     Entries { present, values }
 }
@@ -133,14 +161,20 @@ fn run_verdict(judged: Judged, cycle: Cycle) -> Verdict
     }
 }
 
+fn slot_of(has: u8, value: i64) -> Slot
+    ensures { λ r. ⌜ r ≡ slotOf has value ⌝ }
+{
+    Slot {
+        has: has != 0,
+        value: Seconds(value),
+    }
+}
+
 fn slot_at(present: &[u8; ENTRIES], values: &[i64; ENTRIES], k: usize) -> Slot
     requires { ⌜ k < 161 ⌝ }
     ensures { λ r. ⌜ r ≡ slotAt (now (present .entry)) (now (values .entry)) k ⌝ }
 {
-    Slot {
-        has: present[k] != 0,
-        value: Seconds(values[k]),
-    }
+    slot_of(present[k], values[k])
 }
 
 fn table(present: &[u8; ENTRIES], values: &[i64; ENTRIES]) -> [Slot; TIMES]
@@ -242,6 +276,34 @@ pub extern "C" fn tramcheck_run(
     tell(Answer { verdict, start }, fault, value, times)
 }
 
+// The verdict on an unpacked case with one time replaced or blanked.
+#[no_mangle]
+pub extern "C" fn tramcheck_preview(
+    n: usize,
+    horizon: usize,
+    present: &[u8; ENTRIES],
+    values: &[i64; ENTRIES],
+    row: usize,
+    column: usize,
+    has: u8,
+    time: i64,
+    capacity: usize,
+    work: &mut [i32],
+    fault: &mut usize,
+    value: &mut usize,
+    start: &mut [i64; DEPARTURES],
+) -> u32
+    ensures { λ r. ⌜ Told (preview (caseIn n horizon (now (present .entry)) (now (values .entry))) row column (slotOf has time)
+        capacity (length (now (work .entry)))) r (now (fault .exit)) (now (value .exit)) (now (start .exit)) ⌝ }
+    ensures { λ _. ⌜ now (work .exit) ≡ workspaceAfterPreview (caseIn n horizon (now (present .entry)) (now (values .entry)))
+        row column (slotOf has time) capacity (now (work .entry)) ⌝ }
+{
+    let case = case_in(n, horizon, present, values);
+    let slot = slot_of(has, time);
+    let answer = preview::preview(case, row, column, slot, capacity, work);
+    tell(answer, fault, value, start)
+}
+
 // Writes an unpacked case in packed form to the front of out.
 #[no_mangle]
 pub extern "C" fn tramcheck_write(
@@ -289,5 +351,38 @@ pub extern "C" fn tramcheck_read(
     *values = numbers;
     let judged = read.judged;
     let answer = with_count(judged, bytes.len());
+    tell_written(answer, fault, value)
+}
+
+// Changes one time of an unpacked case where it stands; on a refusal everything stays as it was.
+#[no_mangle]
+pub extern "C" fn tramcheck_commit(
+    n: usize,
+    horizon: usize,
+    present: &mut [u8; ENTRIES],
+    values: &mut [i64; ENTRIES],
+    row: usize,
+    column: usize,
+    has: u8,
+    time: i64,
+    fault: &mut usize,
+    value: &mut usize,
+) -> u32
+    ensures { λ r. ⌜ CommitHanded n horizon (now (present .entry)) (now (values .entry)) row column (slotOf has time)
+        r (now (fault .exit)) (now (value .exit)) (now (present .exit)) (now (values .exit)) ⌝ }
+{
+    let case = case_in(n, horizon, present, values);
+    let slot = slot_of(has, time);
+    let done = preview::commit(case, row, column, slot);
+    let judged = done.judged;
+    if let Judged::Accepted = judged {
+        let k = (row - 1) * n + (column - 1);
+        let entries = with_entry(*present, *values, k, slot);
+        let flags = entries.present;
+        *present = flags;
+        let numbers = entries.values;
+        *values = numbers;
+    }
+    let answer = with_count(judged, 0);
     tell_written(answer, fault, value)
 }

@@ -18,7 +18,7 @@ use model::Slot;
 use model::TIMES;
 
 // Below low or above high.
-fn outside(low: usize, high: usize, k: usize) -> bool
+pub fn outside(low: usize, high: usize, k: usize) -> bool
     ensures { λ r. ⌜ r ≡ Faults.outside low high k ⌝ }
 {
     k < low || high < k

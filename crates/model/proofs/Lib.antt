@@ -39,5 +39,6 @@ pub mod Bytes
 pub mod RoundTrip
 pub mod Writer
 pub mod DemandsHold
+pub mod Changes
 pub mod Determined
 pub mod Runs

@@ -143,7 +143,7 @@ time-at (blank ∷ ts) h = let (j, l, v, e) = time-at ts h in (suc j, omega arit
 time-at (secs v ∷ ts) h = (0, omega arith, v, refl)
 
 -- one of the first m entries, as a time
-getD-times : (m : ℕ) (es : List Slot) (p : ℕ) → p < m → getD (map timeOf (take m es)) p blank ≡ timeOf (getD es p nothing)
+pub getD-times : (m : ℕ) (es : List Slot) (p : ℕ) → p < m → getD (map timeOf (take m es)) p blank ≡ timeOf (getD es p nothing)
 unfolding timeOf
 getD-times m es p h = List·getD-map timeOf (take m es) p nothing ∙ ap timeOf (getD-take m es p nothing h)
 

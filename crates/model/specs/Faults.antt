@@ -1,4 +1,4 @@
--- Document 01's faults and request [1]'s, number 14: their numbers, what they return, and the first one of an unpacked case, of a call and of a run.
+-- Document 01's faults, and 14 and 15 of requests [1] and [2]: their numbers, what they return, and the first one of an unpacked case, of a call and of a run.
 use Prim.Native.Nat.{ℕ, zero, suc, _+_, _*_}
 use lib.IntN.{ℤ, pos, natAbs}
 use mathlib.Core.List.{List, [], _∷_, map}
@@ -32,6 +32,7 @@ code (fault.TableFull k) = (11, k .0)
 code (fault.BoundTooLarge k) = (12, k .0)
 code (fault.StartTime i) = (13, i)
 code (fault.Output bytes) = (14, bytes)
+code fault.Entry = (15, 0)
 
 abbrev pub number : Fault → ℕ
 number f = code f .0

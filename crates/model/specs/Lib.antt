@@ -11,6 +11,8 @@ pub mod Packed
 pub mod Answers
 pub mod Writing
 pub mod Demands
+pub mod Changes
 pub mod Conditions
 pub mod Examples
 pub mod WritingVectors
+pub mod ChangesVectors

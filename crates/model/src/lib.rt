@@ -42,6 +42,7 @@ pub enum Fault {
     BoundTooLarge(Cycle),
     StartTime(usize),
     Output(usize),
+    Entry,
 }
 
 impl Fault {
@@ -63,6 +64,7 @@ impl Fault {
             Fault::BoundTooLarge(_) => 12,
             Fault::StartTime(_) => 13,
             Fault::Output(_) => 14,
+            Fault::Entry => 15,
         }
     }
 
@@ -84,6 +86,7 @@ impl Fault {
             Fault::BoundTooLarge(k) => k.0,
             Fault::StartTime(departure) => departure,
             Fault::Output(needed) => needed,
+            Fault::Entry => 0,
         }
     }
 }
@@ -146,6 +149,12 @@ pub enum Judged {
 
 // A packed case that was read: an empty one where it is refused.
 pub struct Unpacked {
+    pub judged: Judged,
+    pub case: Case,
+}
+
+// A case with one time changed: the case as it was given where that is refused.
+pub struct Committed {
     pub judged: Judged,
     pub case: Case,
 }

@@ -4,19 +4,18 @@ use borrow.Author.Needs.{needs}
 use Prim.Native.Nat.{_+_, _-_}
 use mathlib.Core.Path.{_≡_, refl, ap, _∙_}
 use mathlib.Core.Logic.{⊎-elim}
-use mathlib.Core.Bool.{cond}
 use mathlib.Core.List.{_++_}
 use lib.ListN.{length, getD, length-append}
 use Rattle.model.specs.declared.Slot.{Slot}
 use Rattle.model.specs.Faults.{nothing}
+use Rattle.embed.specs.Numbers.{flag}
 use Rattle.embed.proofs.Arrays.{Copied, copied-more, copied-all, in-first, in-second, in-third}
 use Rattle.embed.proofs.entries_of.Statement.{statement}
 use Rattle.embed.proofs.entries_of.Tie as tie
 
 abbrev Inv-loop : tie.InvT-loop
 Inv-loop times start target present₀ values₀ k₀ present values k =
-    Copied (λ (e : Slot). cond (e .has) 1 0) 161 ((times ++ start) ++ target) present k
-    × Copied (λ (e : Slot). e .value .0) 161 ((times ++ start) ++ target) values k
+    Copied flag 161 ((times ++ start) ++ target) present k × Copied (λ (e : Slot). e .value .0) 161 ((times ++ start) ++ target) values k
 
 abbrev μ-loop : tie.MeasureT-loop
 μ-loop times start target present₀ values₀ k₀ present values k = 161 - k
@@ -30,23 +29,20 @@ mul-slot c = omega arith
 array-copy-out-slot : tie.Need-array-copy-out-slot Inv-loop μ-loop
 array-copy-out-slot c = omega arith
 
-sub-slot : tie.Need-sub-slot Inv-loop μ-loop
-sub-slot c = omega arith
-
 mul-slot-2 : tie.Need-mul-slot-2 Inv-loop μ-loop
 mul-slot-2 c = omega arith
 
 array-copy-out-slot-2 : tie.Need-array-copy-out-slot-2 Inv-loop μ-loop
 array-copy-out-slot-2 c = omega arith
 
-sub-slot-2 : tie.Need-sub-slot-2 Inv-loop μ-loop
-sub-slot-2 c = omega arith
-
 mul-slot-3 : tie.Need-mul-slot-3 Inv-loop μ-loop
 mul-slot-3 c = omega arith
 
 array-copy-out-slot-3 : tie.Need-array-copy-out-slot-3 Inv-loop μ-loop
 array-copy-out-slot-3 c = omega arith
+
+flag-requires : tie.Need-flag-requires Inv-loop μ-loop
+flag-requires c κs = search needs
 
 array-write-present : tie.Need-array-write-present Inv-loop μ-loop
 array-write-present c = omega arith
@@ -82,10 +78,8 @@ loop-again c =
     let j = c .before .before .before in
     let l = j .before .before .loop in
     let a = j .before .before .before .args in
-    let long : length ((a .t1 ++ a .t2) ++ a .t3) ≡ 161 = omega (arith, length-append (a .t1 ++ a .t2) (a .t3), length-append (a .t1) (a .t2)) in
-    let came = c .before .if3 .came in
-    let flag : c .before .if3 .present ≡ cond (j .if1 .slot .has) 1 0 = ⊎-elim (λ w. rw (w .0 .taken) (w .1)) (λ w. rw (w .0 .left) (w .1)) came in (
-      copied-more _ 161 _ _ (l .k) nothing _ long (l .inv .0) (j .before .loop-test .taken) (flag ∙ ap (λ (e : Slot). cond (e .has) 1 0) (entry-is j)),
+    let long : length ((a .t1 ++ a .t2) ++ a .t3) ≡ 161 = omega (arith, length-append (a .t1 ++ a .t2) (a .t3), length-append (a .t1) (a .t2)) in (
+      copied-more _ 161 _ _ (l .k) nothing _ long (l .inv .0) (j .before .loop-test .taken) (c .flag .ensures ∙ ap flag (entry-is j)),
       copied-more _ 161 _ _ (l .k) nothing _ long (l .inv .1) (j .before .loop-test .taken) (rw (← (entry-is j)) (search needs)),
     )
 
@@ -108,12 +102,11 @@ entries-of-spec =
     loop-holds
     mul-slot
     array-copy-out-slot
-    sub-slot
     mul-slot-2
     array-copy-out-slot-2
-    sub-slot-2
     mul-slot-3
     array-copy-out-slot-3
+    flag-requires
     array-write-present
     mul-values
     array-set-from-values

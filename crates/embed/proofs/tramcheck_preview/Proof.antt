@@ -1,0 +1,48 @@
+-- What the preview says, told.
+use borrow.Author.Needs.{needs}
+use mathlib.Core.Path.{_≡_}
+use mir.Syntax.{w64}
+use mir.ValLaws.{toZ-ofZ}
+use Rattle.embed.specs.Numbers.{slotOf}
+use Rattle.embed.proofs.tramcheck_preview.Statement.{statement}
+use Rattle.embed.proofs.tramcheck_preview.Tie as tie
+
+case-in-requires : tie.Need-case-in-requires
+case-in-requires c κs = search needs
+
+slot-of-requires : tie.Need-slot-of-requires
+slot-of-requires c κs = search needs
+
+preview-requires : tie.Need-preview-requires
+preview-requires c κs = search needs
+
+tell-requires : tie.Need-tell-requires
+tell-requires c κs = search needs
+
+same-length : tie.Need-same-length
+same-length c = search needs
+
+-- the new entry
+slot-is : (c : tie.After-slot-of) → let a = c .before .before .args in c .slot-of .result ≡ slotOf (a .has) (a .time)
+slot-is c =
+    let s = c .before .before in
+    simp (toZ-ofZ w64 (s .args .time) (s .fits .time)) at (c .slot-of .ensures)
+
+returns : tie.Need-returns
+returns c =
+    let v = c .before .before .before .before .before in
+    let s = v .before .before in
+    let k = s .before .case-in .ensures in
+    let e = slot-is s in
+    (rw (v .preview .ensures .answer, k, e) at (c .tell .ensures), rw (k, e) at (v .preview .ensures .workspace))
+
+pub tramcheck-preview-spec : {M : Type 1} → statement M
+tramcheck-preview-spec =
+    tie.close
+    (tie.spec
+    case-in-requires
+    slot-of-requires
+    preview-requires
+    tell-requires
+    same-length
+    returns)

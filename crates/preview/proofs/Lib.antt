@@ -1,0 +1,2 @@
+-- What the proof of `preview` uses.
+pub mod Answered
