@@ -9,6 +9,7 @@ use lib.Dec.{eqb}
 use lib.IntN.{ℤ, pos}
 use lib.ListN.{length, set, replicate, length-set}
 use lib.Seq.{getD-set-same, getD-set-other, set-append-left}
+use Rattle.model.specs.Sizes.{mostTimes, mostBounds}
 use Rattle.model.specs.declared.Slot.{Slot}
 use Rattle.model.specs.Lists.{tabulate, padded}
 use Rattle.model.specs.Faults.{nothing}
@@ -18,7 +19,8 @@ use Rattle.model.specs.Changes.{timePlace, changed, commit}
 use Rattle.model.proofs.Changes.{no-change-fault, place-small, accepted-changes, refused-keeps}
 use Rattle.model.proofs.Entries.{length-tabulate}
 use Rattle.model.proofs.Tabulated.{tabulate-ext}
-use Rattle.embed.specs.Numbers.{Handed, writtenNumbers, withCount, slotOf, slotAt, caseIn, flag, EntryPut, stored, CommitHanded}
+use Rattle.embed.specs.Numbers.{startPlace, targetPlace, Handed, writtenNumbers, withCount, slotOf, slotAt, caseIn, flag}
+use Rattle.embed.specs.Numbers.{EntryPut, stored, CommitHanded}
 
 -- one place of a list of f 0, f 1, .. set
 set-tabulate : {X : Type 0} (n s k : ℕ) (f g : ℕ → X) → k < n → ((i : ℕ) → i ≢ s + k → g i ≡ f i)
@@ -63,22 +65,22 @@ module _ {k : ℕ} {e : Slot} {present : List ℕ} {values : List ℤ} {flags : 
       (ap₂ slotOf (getD-set-other present k i (flag e) 0 apart) (getD-set-other values k i (e .value .0) (pos 0) apart))
 
   -- the table's entries
-  table-put : k < 49 → padded nothing 49 (tabulate 49 0 (slotAt flags times)) ≡ set (padded nothing 49 (tabulate 49 0 (slotAt present values))) k e
+  table-put : k < mostTimes → tabulate mostTimes 0 (slotAt flags times) ≡ set (tabulate mostTimes 0 (slotAt present values)) k e
   table-put l =
-      let old = tabulate 49 0 (slotAt present values) in
       let from : 0 + k ≡ k = omega arith in
-      let stored = set-tabulate 49 0 k (slotAt present values) (slotAt flags times) l (λ i apart. others i (rw from at apart)) in
-      let is : tabulate 49 0 (slotAt flags times) ≡ set old k e = stored ∙ rw (from, p .there) in
-      ap (padded nothing 49) is ∙ set-padded nothing 49 old k e (omega (arith, length-tabulate 49 0 (slotAt present values)))
+      set-tabulate mostTimes 0 k (slotAt present values) (slotAt flags times) l (λ i apart. others i (rw from at apart)) ∙ rw (from, p .there)
 
   -- the entries from a later place on
-  pattern-put : (first : ℕ) → k < first → tabulate 56 first (slotAt flags times) ≡ tabulate 56 first (slotAt present values)
-  pattern-put first l = tabulate-ext 56 first _ _ (λ i from to. others i (λ e. omega arith))
+  pattern-put : (first : ℕ) → k < first → tabulate mostBounds first (slotAt flags times) ≡ tabulate mostBounds first (slotAt present values)
+  pattern-put first l = tabulate-ext mostBounds first _ _ (λ i from to. others i (λ e. omega arith))
 
   -- the arrays hold the case with that time changed
-  pub case-put : (n h i j : ℕ) → k ≡ timePlace n i j → k < 49 → caseIn n h flags times ≡ changed (caseIn n h present values) i j e
+  pub case-put : (n h i j : ℕ) → k ≡ timePlace n i j → k < mostTimes → caseIn n h flags times ≡ changed (caseIn n h present values) i j e
   unfolding caseIn changed
-  case-put n h i j at l = rw (← at, table-put l, pattern-put 49 l, pattern-put 105 (omega arith))
+  case-put n h i j at l =
+      let old = tabulate mostTimes 0 (slotAt present values) in
+      let long : k < length old = omega (arith, length-tabulate mostTimes 0 (slotAt present values)) in
+      rw (← at, table-put l, set-padded nothing mostBounds old k e long, pattern-put startPlace l, pattern-put targetPlace (omega arith))
 
 -- ---- what a commit hands back, by its judgement
 module _ (n h : ℕ) (present : List ℕ) (values : List ℤ) (i j : ℕ) (e : Slot) where
@@ -87,7 +89,7 @@ module _ (n h : ℕ) (present : List ℕ) (values : List ℤ) (i j : ℕ) (e : S
   told returned first second = Handed (writtenNumbers (withCount (commit (caseIn n h present values) i j e .judged) 0)) returned first second
 
   -- the place is in the table
-  pub in-table : commit (caseIn n h present values) i j e .judged ≡ judged.Accepted → (1 ≤ i) × (1 ≤ j) × (timePlace n i j < 49)
+  pub in-table : commit (caseIn n h present values) i j e .judged ≡ judged.Accepted → (1 ≤ i) × (1 ≤ j) × (timePlace n i j < mostTimes)
   unfolding caseIn
   in-table ok =
       let clean = accepted-changes _ _ _ e ok .0 in

@@ -1,11 +1,12 @@
 -- Answers and unpacked cases as numbers and lent arrays.
-use Prim.Native.Nat.{ℕ}
+use Prim.Native.Nat.{ℕ, _+_}
 use mathlib.Core.Path.{_≡_}
 use mathlib.Core.Bool.{not, cond}
 use mathlib.Core.List.{List, _++_, map}
 use lib.Dec.{eqb}
 use lib.IntN.{ℤ, pos}
-use lib.ListN.{length, getD, set}
+use lib.ListN.{length, getD, set, take}
+use Rattle.model.specs.Sizes.{mostTimes, mostBounds}
 use Rattle.ints.specs.declared.Seconds.{Seconds}
 use Rattle.model.specs.declared.Slot.{Slot}
 use Rattle.model.specs.declared.Case.{Case}
@@ -31,11 +32,12 @@ runVerdict judged.Accepted k = verdict.Reached (cycleNumber k)
 abbrev pub runAnswer : Run → ℕ → Answer
 runAnswer r k = record { verdict = runVerdict (r .judged) k; start = r .times }
 
+-- times as plain numbers, and start times given so
 abbrev pub plainTimes : List Seconds → List ℤ
 plainTimes xs = map (λ x. x .0) xs
 
-abbrev pub timesIn : List ℤ → List Seconds
-timesIn xs = map seconds xs
+abbrev pub startTimes : List ℤ → List Seconds
+startTimes xs = map seconds xs
 
 -- three numbers as they are handed back: one returned, two lent
 pub record Handed (v : Numbers) (returned first second : ℕ) : Type 0 where
@@ -66,11 +68,21 @@ slotOf has value = record { has = not (eqb has 0); value = seconds value }
 unfoldable pub slotAt : List ℕ → List ℤ → ℕ → Slot
 slotAt present values k = slotOf (getD present k 0) (getD values k (pos 0))
 
--- the table's 49 entries, then 56 of the start pattern, then 56 of the target pattern
+-- where the entries of a case stand: the table's from 0 on, then those of the start pattern, then those of the target pattern; and how many there are
+abbrev pub startPlace : ℕ
+startPlace = mostTimes
+
+abbrev pub targetPlace : ℕ
+targetPlace = startPlace + mostBounds
+
+abbrev pub caseEntries : ℕ
+caseEntries = targetPlace + mostBounds
+
+-- the case of two numbers and two lent arrays
 unfoldable pub caseIn : ℕ → ℕ → List ℕ → List ℤ → Case
 caseIn n h present values =
     let entry = slotAt present values in
-    caseOf n h (tabulate 49 0 entry) (tabulate 56 49 entry) (tabulate 56 105 entry)
+    caseOf n h (tabulate mostTimes 0 entry) (tabulate mostBounds startPlace entry) (tabulate mostBounds targetPlace entry)
 
 -- as which number an entry's presence is handed back
 abbrev pub flag : Slot → ℕ
@@ -85,7 +97,7 @@ pub record EntriesHanded (es : List Slot) (present : List ℕ) (values : List �
 pub record CaseHanded (c : Case) (n horizon : ℕ) (present : List ℕ) (values : List ℤ) : Type 0 where
   pub departures : n ≡ c .n
   pub cycles : horizon ≡ c .horizon .0
-  pub entries : EntriesHanded ((c .times ++ c .start) ++ c .target) present values
+  pub entries : EntriesHanded ((take mostTimes (c .times) ++ c .start) ++ c .target) present values
 
 -- a case written: the numbers handed back, and the output afterwards
 pub record WrittenHanded (c : Case) (out : List ℕ) (returned first second : ℕ) (after : List ℕ) : Type 0 where

@@ -2,40 +2,36 @@
 ghost use mathlib.Core.Path.{_≡_};
 ghost use mathlib.Core.List.{_++_};
 ghost use Prim.Native.Nat.{_+_, _≤_, _<_};
-ghost use lib.ListN.{length};
+ghost use lib.ListN.{length, take};
+ghost use Rattle.model.specs.Sizes.{mostTimes, mostBounds};
 ghost use Rattle.model.specs.Lists.{padded, tabulate};
 ghost use Rattle.model.specs.Faults.{nothing};
 ghost use Rattle.model.specs.Packed.{parse};
 ghost use Rattle.model.specs.Answers.{answer, workspaceAfter, answerPacked, workspaceAfterPacked, unpacked, run};
 ghost use Rattle.model.specs.Changes.{preview, workspaceAfterPreview};
 ghost use Rattle.embed.specs.Numbers;
-ghost use Rattle.embed.specs.Numbers.{Handed, Told, writtenNumbers, withCount, runVerdict, runAnswer, plainTimes, timesIn};
+ghost use Rattle.embed.specs.Numbers.{caseEntries, Handed, Told, writtenNumbers, withCount, runVerdict, runAnswer, plainTimes, startTimes};
 ghost use Rattle.embed.specs.Numbers.{slotOf, slotAt, caseIn, EntryPut, EntriesHanded, CaseHanded, WrittenHanded, CommitHanded};
 use ints::Cycle;
 use ints::Seconds;
+use ints::ZERO;
 use model::Answer;
 use model::BOUNDS;
 use model::Case;
 use model::DEPARTURES;
 use model::Judged;
+use model::NOTHING;
 use model::Slot;
 use model::TIMES;
 use model::Verdict;
 use model::Written;
 
-// The entries of an unpacked case: the table's, then those of the start and of the target pattern.
-pub const ENTRIES: usize = 161;
+// Where the entries of an unpacked case stand: the table's from 0 on, then those of the start and of the target pattern; and how many there are.
+const START: usize = TIMES;
 
-const START: usize = 49;
+const TARGET: usize = START + BOUNDS;
 
-const TARGET: usize = 105;
-
-const ZERO: Seconds = Seconds(0);
-
-const NOTHING: Slot = Slot {
-    has: false,
-    value: ZERO,
-};
+pub const ENTRIES: usize = TARGET + BOUNDS;
 
 // The entries of an unpacked case, 1 in present where one is there, else 0.
 struct Entries {
@@ -55,8 +51,8 @@ fn plain_times(times: [Seconds; DEPARTURES]) -> [i64; DEPARTURES]
     plain
 }
 
-fn times_in(plain: [i64; DEPARTURES]) -> [Seconds; DEPARTURES]
-    ensures { λ r. ⌜ r ≡ timesIn plain ⌝ }
+fn start_times(plain: [i64; DEPARTURES]) -> [Seconds; DEPARTURES]
+    ensures { λ r. ⌜ r ≡ startTimes plain ⌝ }
 {
     let mut times = [ZERO; DEPARTURES];
     for i in 0..DEPARTURES {
@@ -115,7 +111,7 @@ fn flag(slot: Slot) -> u8
 
 // Two arrays with one entry put into them.
 fn with_entry(present: [u8; ENTRIES], values: [i64; ENTRIES], k: usize, slot: Slot) -> Entries
-    requires { ⌜ k < 161 ⌝ }
+    requires { ⌜ k < caseEntries ⌝ }
     ensures { λ r. ⌜ EntryPut k slot present values (r .present) (r .values) ⌝ }
 {
     let mut flags = present;
@@ -131,8 +127,8 @@ fn with_entry(present: [u8; ENTRIES], values: [i64; ENTRIES], k: usize, slot: Sl
 }
 
 // The entries of a case as two arrays.
-fn entries_of(times: [Slot; TIMES], start: [Slot; BOUNDS], target: [Slot; BOUNDS]) -> Entries
-    ensures { λ r. ⌜ EntriesHanded ((times ++ start) ++ target) (r .present) (r .values) ⌝ }
+fn entries_of(times: [Slot; BOUNDS], start: [Slot; BOUNDS], target: [Slot; BOUNDS]) -> Entries
+    ensures { λ r. ⌜ EntriesHanded ((take mostTimes times ++ start) ++ target) (r .present) (r .values) ⌝ }
 {
     let mut present = [0u8; ENTRIES];
     let mut values = [0i64; ENTRIES];
@@ -171,29 +167,24 @@ fn slot_of(has: u8, value: i64) -> Slot
 }
 
 fn slot_at(present: &[u8; ENTRIES], values: &[i64; ENTRIES], k: usize) -> Slot
-    requires { ⌜ k < 161 ⌝ }
+    requires { ⌜ k < caseEntries ⌝ }
     ensures { λ r. ⌜ r ≡ slotAt (now (present .entry)) (now (values .entry)) k ⌝ }
 {
     slot_of(present[k], values[k])
 }
 
-fn table(present: &[u8; ENTRIES], values: &[i64; ENTRIES]) -> [Slot; TIMES]
-    ensures { λ r. ⌜ r ≡ padded nothing 49 (tabulate 49 0 (slotAt (now (present .entry)) (now (values .entry)))) ⌝ }
-{
-    let mut slots = [NOTHING; TIMES];
-    for k in 0..TIMES {
-        let slot = slot_at(present, values, k);
-        slots[k] = slot;
-    }
-    slots
-}
-
-fn pattern(present: &[u8; ENTRIES], values: &[i64; ENTRIES], first: usize) -> [Slot; BOUNDS]
-    requires { ⌜ first ≤ 105 ⌝ }
-    ensures { λ r. ⌜ r ≡ padded nothing 56 (tabulate 56 first (slotAt (now (present .entry)) (now (values .entry)))) ⌝ }
+// The entries from first on, as many as count.
+fn part(
+    present: &[u8; ENTRIES],
+    values: &[i64; ENTRIES],
+    first: usize,
+    count: usize,
+) -> [Slot; BOUNDS]
+    requires { ⌜ (first + count ≤ caseEntries) × (count ≤ mostBounds) ⌝ }
+    ensures { λ r. ⌜ r ≡ padded nothing mostBounds (tabulate count first (slotAt (now (present .entry)) (now (values .entry)))) ⌝ }
 {
     let mut slots = [NOTHING; BOUNDS];
-    for k in 0..BOUNDS {
+    for k in 0..count {
         let slot = slot_at(present, values, first + k);
         slots[k] = slot;
     }
@@ -203,9 +194,9 @@ fn pattern(present: &[u8; ENTRIES], values: &[i64; ENTRIES], first: usize) -> [S
 fn case_in(n: usize, horizon: usize, present: &[u8; ENTRIES], values: &[i64; ENTRIES]) -> Case
     ensures { λ r. ⌜ r ≡ caseIn n horizon (now (present .entry)) (now (values .entry)) ⌝ }
 {
-    let times = table(present, values);
-    let start = pattern(present, values, START);
-    let target = pattern(present, values, TARGET);
+    let times = part(present, values, 0, TIMES);
+    let start = part(present, values, START, BOUNDS);
+    let target = part(present, values, TARGET, BOUNDS);
     Case {
         n,
         horizon: Cycle(horizon),
@@ -225,7 +216,8 @@ pub extern "C" fn tramcheck_verdict(
     value: &mut usize,
     start: &mut [i64; DEPARTURES],
 ) -> u32
-    ensures { λ r. ⌜ Told (answerPacked (now (bytes .entry)) capacity (length (now (work .entry)))) r (now (fault .exit)) (now (value .exit)) (now (start .exit)) ⌝ }
+    ensures { λ r. ⌜ Told (answerPacked (now (bytes .entry)) capacity (length (now (work .entry))))
+        r (now (fault .exit)) (now (value .exit)) (now (start .exit)) ⌝ }
     ensures { λ _. ⌜ now (work .exit) ≡ workspaceAfterPacked (now (bytes .entry)) capacity (now (work .entry)) ⌝ }
 {
     let answer = verdict::verdict_packed(bytes, capacity, work);
@@ -245,8 +237,10 @@ pub extern "C" fn tramcheck_verdict_unpacked(
     value: &mut usize,
     start: &mut [i64; DEPARTURES],
 ) -> u32
-    ensures { λ r. ⌜ Told (answer (caseIn n horizon (now (present .entry)) (now (values .entry))) capacity (length (now (work .entry)))) r (now (fault .exit)) (now (value .exit)) (now (start .exit)) ⌝ }
-    ensures { λ _. ⌜ now (work .exit) ≡ workspaceAfter (caseIn n horizon (now (present .entry)) (now (values .entry))) capacity (now (work .entry)) ⌝ }
+    ensures { λ r. ⌜ Told (answer (caseIn n horizon (now (present .entry)) (now (values .entry))) capacity (length (now (work .entry))))
+        r (now (fault .exit)) (now (value .exit)) (now (start .exit)) ⌝ }
+    ensures { λ _. ⌜ now (work .exit) ≡ workspaceAfter (caseIn n horizon (now (present .entry)) (now (values .entry)))
+        capacity (now (work .entry)) ⌝ }
 {
     let case = case_in(n, horizon, present, values);
     let answer = verdict::verdict(case, capacity, work);
@@ -265,10 +259,11 @@ pub extern "C" fn tramcheck_run(
     value: &mut usize,
     times: &mut [i64; DEPARTURES],
 ) -> u32
-    ensures { λ r. ⌜ Told (runAnswer (run (caseIn n 0 (now (present .entry)) (now (values .entry))) (timesIn (now (start .entry))) cycle) cycle) r (now (fault .exit)) (now (value .exit)) (now (times .exit)) ⌝ }
+    ensures { λ r. ⌜ Told (runAnswer (run (caseIn n 0 (now (present .entry)) (now (values .entry))) (startTimes (now (start .entry))) cycle) cycle)
+        r (now (fault .exit)) (now (value .exit)) (now (times .exit)) ⌝ }
 {
     let case = case_in(n, 0, present, values);
-    let from = times_in(*start);
+    let from = start_times(*start);
     let run = runs::run(case, from, Cycle(cycle));
     let judged = run.judged;
     let start = run.times;
@@ -315,7 +310,8 @@ pub extern "C" fn tramcheck_write(
     fault: &mut usize,
     value: &mut usize,
 ) -> u32
-    ensures { λ r. ⌜ WrittenHanded (caseIn n horizon (now (present .entry)) (now (values .entry))) (now (out .entry)) r (now (fault .exit)) (now (value .exit)) (now (out .exit)) ⌝ }
+    ensures { λ r. ⌜ WrittenHanded (caseIn n horizon (now (present .entry)) (now (values .entry))) (now (out .entry))
+        r (now (fault .exit)) (now (value .exit)) (now (out .exit)) ⌝ }
 {
     let case = case_in(n, horizon, present, values);
     let answer = packer::write(case, out);
@@ -333,8 +329,10 @@ pub extern "C" fn tramcheck_read(
     fault: &mut usize,
     value: &mut usize,
 ) -> u32
-    ensures { λ r. ⌜ Handed (writtenNumbers (withCount (unpacked (parse (now (bytes .entry))) .judged) (length (now (bytes .entry))))) r (now (fault .exit)) (now (value .exit)) ⌝ }
-    ensures { λ _. ⌜ CaseHanded (unpacked (parse (now (bytes .entry))) .case) (now (n .exit)) (now (horizon .exit)) (now (present .exit)) (now (values .exit)) ⌝ }
+    ensures { λ r. ⌜ Handed (writtenNumbers (withCount (unpacked (parse (now (bytes .entry))) .judged) (length (now (bytes .entry)))))
+        r (now (fault .exit)) (now (value .exit)) ⌝ }
+    ensures { λ _. ⌜ CaseHanded (unpacked (parse (now (bytes .entry))) .case)
+        (now (n .exit)) (now (horizon .exit)) (now (present .exit)) (now (values .exit)) ⌝ }
 {
     let read = packed::read(bytes);
     let case = read.case;

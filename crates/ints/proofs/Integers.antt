@@ -1,6 +1,6 @@
 -- The rules by which omega, which reads natural numbers alone, proves linear facts of integers: z is up z - dn z, and one of the two is 0.
 -- `omega (ints, add-ud x y, ..)`: list one `-ud` for each sum, difference, negation, `pos n` and `natAbs` that the fact names, inner ones too.
-use mathlib.Core.Path.{_≡_, refl, ap, subst}
+use mathlib.Core.Path.{_≡_, refl, sym, ap, subst}
 use mathlib.Core.Bool.{Bool, true, false, cond}
 use Prim.Native.Nat.{ℕ, zero, suc, _+_, _-_, _^_, _≤_, _<_, min}
 use native.Mathlib.Omega.{arith}
@@ -11,6 +11,10 @@ use lib.Signed.{_≤ℤ_, _<ℤ_, leZ, ltZ, ltZ-no}
 use mir.Syntax.{Width}
 use mir.Val.{SFits, hbits, toZ, ofZ}
 use mir.ValLaws.{toZ-pos, toZ-ofZ}
+
+-- cases that exclude each other, found by `cc`: `impossible cc`
+pub impossible {ℓ} : {A : Type ℓ} → _≡_ {A = ℕ} 0 1 → A
+impossible z = absurd (omega arith)
 
 unfoldable pub up : ℤ → ℕ
 up (pos n) = n
@@ -83,6 +87,18 @@ nat-leZ a b h = go (leZ a b) refl
     go true e = refl
     go false e = absurd (omega (arith, leZ-false a b e))
 
+pub nat-gtZ : (a b : ℤ) → up b + dn a < up a + dn b → leZ a b ≡ false
+nat-gtZ a b h = go (leZ a b) refl
+  where
+    go : (t : Bool) → leZ a b ≡ t → t ≡ false
+    go true e = absurd (omega (arith, leZ-true a b e))
+    go false e = refl
+
+-- tests that pass and fail together
+pub same-test : (s t : Bool) → (s ≡ true → t ≡ true) × (s ≡ false → t ≡ false) → s ≡ t
+same-test true t h = sym (h .0 refl)
+same-test false t h = sym (h .1 refl)
+
 -- ---- natural numbers, sizes, negations, sums and differences
 pub record Pos (n : ℕ) : Type 0 where
   pub up-is : up (pos n) ≡ n
@@ -152,6 +168,9 @@ unfolding up dn
 fits {a = pos n} r = omega arith
 fits {a = negsuc n} r = omega arith
 
+pub sized-fits : {w : Width} (a : ℤ) → natAbs a < 2 ^ hbits w → SFits w a
+sized-fits a h = fits (omega (arith, abs-ud a))
+
 -- the negation of an unsigned number, which the machine computes as 0 - n
 module _ (w : Width) (n : ℕ) (h : n < 2 ^ hbits w) where
   pub opposite-fits : SFits w (pos 0 -ℤ toZ w n)
@@ -160,4 +179,4 @@ module _ (w : Width) (n : ℕ) (h : n < 2 ^ hbits w) where
   pub opposite : toZ w (ofZ w (pos 0 -ℤ toZ w n)) ≡ negℤ (pos n)
   opposite = rw (toZ-ofZ w _ opposite-fits, toZ-pos w n h) (+ℤ-idl (negℤ (pos n)))
 
-pub ruleset ints = (arith, le-nat, nat-le, lt-nat, nat-lt, eq-nat, nat-eq, leZ-true, leZ-false, ltZ-true, ltZ-false, nat-leZ)
+pub ruleset ints = (arith, le-nat, nat-le, lt-nat, nat-lt, eq-nat, nat-eq, leZ-true, leZ-false, ltZ-true, ltZ-false, nat-leZ, nat-gtZ)

@@ -11,6 +11,8 @@ ghost use mir.Val.{SFits};
 // A time stamp.
 pub struct Seconds(pub i64);
 
+pub const ZERO: Seconds = Seconds(0);
+
 // An event counter.
 pub struct Cycle(pub usize);
 

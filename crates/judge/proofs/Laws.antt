@@ -1,14 +1,14 @@
 -- Laws of the judged faults: one turn and the end of each walk over entries and rows, and what a judgement says of the fault that it stands for.
 use mathlib.Core.Path.{_≡_, refl, sym, ap, _∙_}
 use Prim.Native.Nat.{ℕ, suc, _+_, _-_, _*_, _≤_, _<_}
-use native.Mathlib.Nat.{add-zero, suc-mul, add-mul, mul-le-mul}
+use native.Mathlib.Nat.{add-zero, suc-mul}
 use native.Mathlib.Numerals.{add-one}
 use native.Mathlib.Omega.{arith}
 use mathlib.Core.List.{List, [], _∷_, map}
 use mathlib.Core.Option.{Option, none, some}
 use mathlib.Core.Bool.{Bool, true, false, not, _||_, or-false, or-assoc}
-use lib.ListN.{length, take, drop, getD, length-take, length-drop, drop-of-length-le}
-use lib.Seq.{drop-cons, drop-drop, getD-take, getD-drop}
+use lib.ListN.{length, take, drop, getD, drop-of-length-le}
+use lib.Seq.{drop-cons, drop-drop}
 use Rattle.model.proofs.Stored.{has-time}
 use Rattle.model.specs.declared.Slot.{Slot}
 use Rattle.model.specs.declared.Case.{Case}
@@ -16,44 +16,54 @@ use Rattle.model.specs.declared.Fault.{Fault}
 use Rattle.model.specs.declared.Fault.the-variants as fault
 use Rattle.model.specs.declared.Judged.{Judged}
 use Rattle.model.specs.declared.Judged.the-variants as judged
+use Rattle.model.specs.Sizes.{timeLimit}
 use Rattle.model.specs.Lists.{anyOf, when, orElse}
 use Rattle.model.specs.Network.{regular}
 use Rattle.model.specs.Faults.{timeOf, beyond, entryFault, rowsFault, outside, tableFault, caseFault}
+use Rattle.model.specs.Conditions.{Departures}
 use Rattle.model.proofs.Limits.{no-fault, orElse-none}
 use Rattle.judge.specs.Judgement.{judgedBy}
 
--- ---- a walk over n entries: i were passed, and the first fault is that of the others
-pub record Passed (limit : ℕ) (f : ℕ → Fault) (p : ℕ) (es : List Slot) (n i : ℕ) : Type 0 where
+-- ---- a walk over n entries, of which the code reads entry j as `e j`: i were passed, and the first fault is that of the others
+pub record Passed (limit : ℕ) (f : ℕ → Fault) (p : ℕ) (es : List Slot) (n : ℕ) (e : ℕ → Slot) (i : ℕ) : Type 0 where
   pub long : length es ≡ n
+  pub reads : (j : ℕ) → j < n → drop j es ≡ e j ∷ drop (j + 1) es
   pub within : i ≤ n
   pub rest : entryFault limit f p es ≡ entryFault limit f (p + i) (drop i es)
 
-pub passed-none : {limit : ℕ} {f : ℕ → Fault} {p : ℕ} {es : List Slot} {n : ℕ} → length es ≡ n → Passed limit f p es n 0
-passed-none l = record { long = l; within = omega arith; rest = rw add-zero refl }
+pub passed-none : {limit : ℕ} {f : ℕ → Fault} {p : ℕ} {es : List Slot} {n : ℕ} {e : ℕ → Slot}
+    → (z : Slot) → length es ≡ n → ((j : ℕ) → j < n → getD es j z ≡ e j) → Passed limit f p es n e 0
+passed-none {es} z l at = record {
+  long = l;
+  reads = λ j h. let u : j < length es = omega arith in rw (add-one, drop-cons es j z) (ap (λ (x : Slot). x ∷ drop (suc j) es) (at j h));
+  within = omega arith;
+  rest = rw add-zero refl;
+}
 
 -- the entries hold a time exactly if t, which says it of those passed, or the others do
 abbrev pub SomeTime : List Slot → ℕ → Bool → Type 0
 SomeTime es i t = regular (map timeOf es) ≡ (t || regular (map timeOf (drop i es)))
 
-module _ {limit : ℕ} {f : ℕ → Fault} {p : ℕ} {es : List Slot} {n i : ℕ} (r : Passed limit f p es n i) where
-  -- a turn: e is the next entry
-  module _ (h : i < n) (z e : Slot) (d : getD es i z ≡ e) where
-    next : drop i es ≡ e ∷ drop (i + 1) es
-    next = let l : i < length es = omega (arith, r .long) in rw (add-one, drop-cons es i z) (ap (λ (x : Slot). x ∷ drop (suc i) es) d)
-
-    pub passed-more : beyond limit e ≡ false → Passed limit f p es n (i + 1)
+module _ {limit : ℕ} {f : ℕ → Fault} {p : ℕ} {es : List Slot} {n : ℕ} {e : ℕ → Slot} {i : ℕ} (r : Passed limit f p es n e i) where
+  -- a turn
+  module _ (h : i < n) where
+    pub passed-more : beyond limit (e i) ≡ false → Passed limit f p es n e (i + 1)
     unfolding entryFault
     passed-more b =
         let m : suc (p + i) ≡ p + (i + 1) = omega arith in
-        record { long = r .long; within = omega arith; rest = r .rest ∙ ap (entryFault limit f (p + i)) next ∙ simp (b, m) }
+        record { long = r .long; reads = r .reads; within = omega arith; rest = r .rest ∙ rw (r .reads i h) (simp (b, m)) }
 
-    pub passed-fault : beyond limit e ≡ true → entryFault limit f p es ≡ some (f (p + i))
+    pub passed-fault : beyond limit (e i) ≡ true → entryFault limit f p es ≡ some (f (p + i))
     unfolding entryFault
-    passed-fault b = r .rest ∙ ap (entryFault limit f (p + i)) next ∙ simp b
+    passed-fault b = r .rest ∙ rw (r .reads i h) (simp b)
 
-    pub times-more : (t : Bool) → SomeTime es i t → SomeTime es (i + 1) (t || e .has)
+    pub passed-refused : beyond limit (e i) ≡ true → judged.Refused (f (p + i)) ≡ judgedBy (entryFault limit f p es)
+    unfolding judgedBy
+    passed-refused b = simp (passed-fault b)
+
+    pub times-more : (t : Bool) → SomeTime es i t → SomeTime es (i + 1) (t || e i .has)
     unfolding regular anyOf
-    times-more t s = s ∙ rw (next, or-assoc) (ap (λ (b : Bool). t || (b || regular (map timeOf (drop (i + 1) es)))) (has-time e))
+    times-more t s = s ∙ rw (r .reads i h, or-assoc) (ap (λ (b : Bool). t || (b || regular (map timeOf (drop (i + 1) es)))) (has-time (e i)))
 
   -- the end
   module _ (h : n ≤ i) where
@@ -62,29 +72,21 @@ module _ {limit : ℕ} {f : ℕ → Fault} {p : ℕ} {es : List Slot} {n i : ℕ
 
     pub passed-all : entryFault limit f p es ≡ none
     unfolding entryFault
-    passed-all = r .rest ∙ ap (entryFault limit f (p + i)) all
+    passed-all = r .rest ∙ rw all refl
+
+    pub passed-accepted : judged.Accepted ≡ judgedBy (entryFault limit f p es)
+    unfolding judgedBy
+    passed-accepted = simp passed-all
 
     pub times-all : (t : Bool) → SomeTime es i t → regular (map timeOf es) ≡ t
     unfolding regular anyOf
     times-all t s = s ∙ rw all (or-false t)
 
--- ---- a part of an array: n entries from place b on
-module _ {X : Type 0} (xs : List X) (b n : ℕ) where
-  pub length-part : b + n ≤ length xs → length (take n (drop b xs)) ≡ n
-  length-part h = simp (length-take, length-drop) (omega arith)
-
-  pub getD-part : (i : ℕ) (z : X) → i < n → getD (take n (drop b xs)) i z ≡ getD xs (b + i) z
-  getD-part i z h = rw (getD-take, getD-drop)
-
 -- ---- row r of n, and those after it
--- the row stands within the table's array
-pub row-fits : {n r : ℕ} → n ≤ 7 → r < n → r * n + n ≤ 49
-row-fits {n} {r} few h = let m : r + 1 ≤ 7 = omega arith in omega (arith, mul-le-mul m few, add-mul r 1 n)
-
 module _ (n r : ℕ) (es : List Slot) where
   pub rows-turn : r < n → rowsFault n (n - r) (r * n) (drop (r * n) es) ≡
       let row = take n (drop (r * n) es) in
-      orElse (entryFault 86400 fault.Time (r * n) row)
+      orElse (entryFault timeLimit fault.Time (r * n) row)
       (orElse (when (not (regular (map timeOf row))) (fault.EmptyRow (r * n))) (rowsFault n (n - (r + 1)) ((r + 1) * n) (drop ((r + 1) * n) es)))
   unfolding rowsFault
   rows-turn h =
@@ -123,12 +125,11 @@ module _ {r : Judged} (o : Option Fault) (made : r ≡ judgedBy o) where
     pub first-accepted : r ≡ judged.Accepted → judgedBy p ≡ judgedBy (orElse o p)
     first-accepted e = simp (accepted e)
 
--- a table without a fault has few departures
-pub few : (c : Case) (low k : ℕ) → tableFault c low k ≡ none → c .n ≤ 7
+-- a table without a fault has a number of departures in its limits, and so has a case
+pub table-departures : (c : Case) (low k : ℕ) → tableFault c low k ≡ none → Departures (c .n)
 unfolding tableFault outside
-few c low k h = let facts = simp no-fault at h in omega arith
+table-departures c low k h = let facts = simp no-fault at h in omega arith
 
--- so has a case without a fault
-pub few-case : (c : Case) → caseFault c ≡ none → c .n ≤ 7
+pub case-departures : (c : Case) → caseFault c ≡ none → Departures (c .n)
 unfolding caseFault
-few-case c h = few c 1 (c .horizon .0) (orElse-none _ _ .0 h .0)
+case-departures c h = table-departures c 1 (c .horizon .0) (orElse-none _ _ .0 h .0)

@@ -4,18 +4,24 @@ ghost use mathlib.Core.List.{map};
 ghost use Prim.Native.Nat.{_≤_, _<_, _^_};
 ghost use lib.ListN.{take};
 ghost use Rattle.model.specs.declared.Fault.the-variants as fault;
+ghost use Rattle.model.specs.Sizes.{mostBounds, boundLimit, startLimit};
 ghost use Rattle.model.specs.Faults;
 ghost use Rattle.model.specs.Faults.{present, entryFault, rowsFault, tableFault, patternsFault, caseFault, roomFault, callFault, runFault};
+ghost use Rattle.model.specs.Conditions.{Departures};
 ghost use Rattle.judge.specs.Judgement.{judgedBy};
 use ints::Cycle;
 use ints::Seconds;
+use model::BOUND_LIMIT;
 use model::BOUNDS;
+use model::CYCLES;
 use model::Case;
 use model::DEPARTURES;
 use model::Fault;
 use model::Judged;
+use model::START_LIMIT;
 use model::Slot;
-use model::TIMES;
+use model::TIME_LIMIT;
+use model::ZONES;
 
 // Below low or above high.
 pub fn outside(low: usize, high: usize, k: usize) -> bool
@@ -33,8 +39,8 @@ fn beyond(slot: Slot, limit: u64) -> bool
 }
 
 // Faults 4 and 5: each row's entries, then whether it holds a time.
-fn rows_fault(times: [Slot; TIMES], n: usize) -> Judged
-    requires { ⌜ n ≤ 7 ⌝ }
+fn rows_fault(times: [Slot; BOUNDS], n: usize) -> Judged
+    requires { ⌜ Departures n ⌝ }
     ensures { λ r. ⌜ r ≡ judgedBy (rowsFault n n 0 times) ⌝ }
 {
     let mut judged = Judged::Accepted;
@@ -44,7 +50,7 @@ fn rows_fault(times: [Slot; TIMES], n: usize) -> Judged
         for column in 0..n {
             let k = first + column;
             let slot = times[k];
-            if beyond(slot, 86400) {
+            if beyond(slot, TIME_LIMIT) {
                 judged = Judged::Refused(Fault::Time(k));
                 break 'rows;
             }
@@ -60,12 +66,12 @@ fn rows_fault(times: [Slot; TIMES], n: usize) -> Judged
 
 // Fault 6 of one pattern: its first count entries, numbered from offset on.
 fn bounds_fault(bounds: [Slot; BOUNDS], count: usize, offset: usize) -> Judged
-    requires { ⌜ (count ≤ 56) × (offset ≤ 56) ⌝ }
-    ensures { λ r. ⌜ r ≡ judgedBy (entryFault 1000000 fault.Bound offset (take count bounds)) ⌝ }
+    requires { ⌜ (count ≤ mostBounds) × (offset ≤ mostBounds) ⌝ }
+    ensures { λ r. ⌜ r ≡ judgedBy (entryFault boundLimit fault.Bound offset (take count bounds)) ⌝ }
 {
     for i in 0..count {
         let slot = bounds[i];
-        if beyond(slot, 1000000) {
+        if beyond(slot, BOUND_LIMIT) {
             return Judged::Refused(Fault::Bound(offset + i));
         }
     }
@@ -74,12 +80,12 @@ fn bounds_fault(bounds: [Slot; BOUNDS], count: usize, offset: usize) -> Judged
 
 // Fault 13: the first n start times.
 fn starts_fault(start: [Seconds; DEPARTURES], n: usize) -> Judged
-    requires { ⌜ n ≤ 7 ⌝ }
-    ensures { λ r. ⌜ r ≡ judgedBy (entryFault 1000000000000 fault.StartTime 0 (map (λ x. present (x .0)) (take n start))) ⌝ }
+    requires { ⌜ Departures n ⌝ }
+    ensures { λ r. ⌜ r ≡ judgedBy (entryFault startLimit fault.StartTime 0 (map (λ x. present (x .0)) (take n start))) ⌝ }
 {
     for i in 0..n {
         let x = start[i];
-        if x.beyond(1000000000000) {
+        if x.beyond(START_LIMIT) {
             return Judged::Refused(Fault::StartTime(i));
         }
     }
@@ -91,10 +97,10 @@ fn table_fault(case: Case, low: usize, k: usize) -> Judged
     ensures { λ r. ⌜ r ≡ judgedBy (tableFault case low k) ⌝ }
 {
     let n = case.n;
-    if outside(1, 7, n) {
+    if outside(1, DEPARTURES, n) {
         return Judged::Refused(Fault::Departures);
     }
-    if outside(low, 64, k) {
+    if outside(low, CYCLES, k) {
         return Judged::Refused(Fault::Horizon);
     }
     let times = case.times;
@@ -103,7 +109,7 @@ fn table_fault(case: Case, low: usize, k: usize) -> Judged
 
 // Fault 6: the start, then the target, whose entries are numbered after those of the start.
 fn patterns_fault(case: Case) -> Judged
-    requires { ⌜ case .n ≤ 7 ⌝ }
+    requires { ⌜ Departures (case .n) ⌝ }
     ensures { λ r. ⌜ r ≡ judgedBy (patternsFault case) ⌝ }
 {
     let n = case.n;
@@ -118,13 +124,13 @@ fn patterns_fault(case: Case) -> Judged
 
 // Faults 9 and 10. The product is formed only where it is small.
 fn room_fault(n: usize, capacity: usize, size: usize) -> Judged
-    requires { ⌜ n ≤ 7 ⌝ }
+    requires { ⌜ Departures n ⌝ }
     ensures { λ r. ⌜ r ≡ judgedBy (roomFault n capacity size) ⌝ }
 {
-    if outside(1, 4096, capacity) {
+    if outside(1, ZONES, capacity) {
         return Judged::Refused(Fault::Capacity);
     }
-    if size < 2 * capacity * (n + 1) * (n + 1) {
+    if size < 2 * (capacity * ((n + 1) * (n + 1))) {
         return Judged::Refused(Fault::Workspace);
     }
     Judged::Accepted

@@ -1,15 +1,15 @@
 -- The sets of all selections, row by row: an empty set adds nothing, whatever the rows below it pick.
-use Prim.Native.Nat.{ℕ, suc, _-_, _≤_}
+use Prim.Native.Nat.{ℕ, zero, suc, _+_, _-_, _≤_, _<_}
 use native.Mathlib.Omega.{arith}
-use mathlib.Core.Path.{_≡_, refl, sym, ap, _∙_}
-use mathlib.Core.Bool.{true, false, cond}
-use mathlib.Core.List.{List, [], _∷_, _++_, map, map-append, map-map, flatMap, foldl, foldl-append, append-nil, append-assoc}
-use mathlib.Core.Option.{Option, none, some}
-use Rattle.model.specs.Lists.{anyOf}
-use Rattle.model.specs.Matrix.{Matrix, Constraint, constrain, sameMatrix}
-use Rattle.model.specs.Network.{Time, blank, secs, time, isTime}
+use native.Mathlib.Numerals.{add-one}
+use mathlib.Core.Path.{_≡_, refl, ap, fun-ext, _∙_}
+use mathlib.Core.List.{List, [], _∷_, _++_, map, map-append, map-map, flatMap, foldl, foldl-append}
+use mathlib.Core.Option.{Option, none}
+use Rattle.model.specs.Matrix.{Matrix, Constraint, constrain}
+use Rattle.model.specs.Network.{Time, isTime}
 use Rattle.model.specs.Search.{columns, selections, rowConstraints, rowsConstraints, keep}
-use Rattle.lists.specs.Lists.{extensions}
+use Rattle.model.specs.Conditions.{Column}
+use Rattle.lists.specs.Selecting.{extensions, Passed}
 
 -- ---- no set is left of an empty one, and nothing is kept of it
 constrain-none : (m : ℕ) (ks : List Constraint) → foldl (constrain m) none ks ≡ none
@@ -22,73 +22,65 @@ unfolding keep
 keep-none f h kept [] = refl
 keep-none f h kept (x ∷ xs) = ap (λ (o : Option Matrix). foldl keep (keep kept o) (map f xs)) (h x) ∙ keep-none f h kept xs
 
--- ---- a list of kept zones keeps its front
-keep-front : (kept : List Matrix) (o : Option Matrix) → (more : List Matrix) × (keep kept o ≡ kept ++ more)
-unfolding keep
-keep-front kept none = ([], sym (append-nil kept))
-keep-front kept (some z) = elim (anyOf (sameMatrix z) kept) as (λ t. (more : List Matrix) × (cond t kept (kept ++ (z ∷ [])) ≡ kept ++ more)) [
-  | true ↦ ([], sym (append-nil kept))
-  | false ↦ (z ∷ [], refl)
-]
-
-pub kept-front : (kept : List Matrix) (os : List (Option Matrix)) → (more : List Matrix) × (foldl keep kept os ≡ kept ++ more)
-kept-front kept [] = ([], sym (append-nil kept))
-kept-front kept (o ∷ os) =
-    let (more, e) = keep-front kept o in
-    let (rest, f) = kept-front (keep kept o) os in
-    (more ++ rest, f ∙ ap (λ (l : List Matrix). l ++ rest) e ∙ append-assoc kept more rest)
-
--- ---- maps and flat maps
 map-flatMap : {X Y Z : Type 0} (f : Y → Z) (g : X → List Y) (xs : List X) → map f (flatMap g xs) ≡ flatMap (λ x. map f (g x)) xs
 unfolding flatMap
 map-flatMap f g [] = refl
 map-flatMap f g (x ∷ xs) = map-append f (g x) (flatMap g xs) ∙ ap (λ (l : List _). map f (g x) ++ l) (map-flatMap f g xs)
 
-flatMap-same : {X Y : Type 0} (f g : X → List Y) → ((x : X) → f x ≡ g x) → (xs : List X) → flatMap f xs ≡ flatMap g xs
-unfolding flatMap
-flatMap-same f g h [] = refl
-flatMap-same f g h (x ∷ xs) = rw (h x, flatMap-same f g h xs)
+-- ---- the columns of a row from column s on
+module _ (n : ℕ) (a : List Time) (i : ℕ) where
+  abbrev pub columnsFrom : ℕ → List ℕ
+  columnsFrom s = columns n a i (suc n - s) s
 
-map-same : {X Y : Type 0} (f g : X → Y) → ((x : X) → f x ≡ g x) → (xs : List X) → map f xs ≡ map g xs
-map-same f g h [] = refl
-map-same f g h (x ∷ xs) = rw (h x, map-same f g h xs)
+  pub columns-here : (s : ℕ) → Column n a i s → columnsFrom s ≡ s ∷ columnsFrom (s + 1)
+  unfolding columns isTime
+  columns-here s c =
+      let z : suc n - s ≡ suc (suc n - suc s) = let h = c .to-n in omega arith in
+      rw (z, c .is, add-one s)
 
+  pub columns-end : (s : ℕ) → n < s → columnsFrom s ≡ []
+  unfolding columns
+  columns-end s h = let z : suc n - s ≡ 0 = omega arith in rw z
+
+  -- blank ones are passed over
+  pub columns-past : {s r : ℕ} → Passed n a i s r → columnsFrom s ≡ columnsFrom r
+  unfolding columns isTime
+  columns-past {s} {r} c = go (r - s) s (omega (arith, c .from)) (omega arith)
+    where
+      go : (k t : ℕ) → t + k ≡ r → s ≤ t → columnsFrom t ≡ columnsFrom r
+      go zero t e h = let p : t ≡ r = omega arith in rw p
+      go (suc k) t e h =
+          let z : suc n - t ≡ suc (suc n - suc t) = omega (arith, c .to) in
+          rw (z, c .blank t h (omega arith)) (go k (suc t) (omega arith) (omega arith))
+
+-- ---- the sets by the column of row i
 module _ (n : ℕ) (a : List Time) (d : Matrix) where
-  -- all rows picked
-  pub extensions-end : (part : Option Matrix) (cols : List ℕ) (i : ℕ) → extensions n a d part cols i 0 ≡ part ∷ []
-  unfolding extensions selections rowsConstraints
-  extensions-end part cols i = refl
-
-  -- by the column of row i
   abbrev pub byColumn : Option Matrix → List ℕ → ℕ → ℕ → ℕ → List (Option Matrix)
   byColumn part cols i r s = extensions n a d (foldl (constrain (suc n)) part (rowConstraints n a d cols i s)) (cols ++ (s ∷ [])) (suc i) r
 
-  pub extensions-more : (part : Option Matrix) (cols : List ℕ) (i r : ℕ)
-      → extensions n a d part cols i (suc r) ≡ flatMap (byColumn part cols i r) (columns n a i n 1)
+  pub by-columns : (part : Option Matrix) (cols : List ℕ) (i : ℕ) → i ≤ n
+      → extensions n a d part cols i (suc n - i) ≡ flatMap (byColumn part cols i (suc n - suc i)) (columnsFrom n a i 1)
   unfolding extensions selections rowsConstraints
-  extensions-more part cols i r =
-      map-flatMap (λ rest. foldl (constrain (suc n)) part (rowsConstraints n a d cols i rest)) (λ j. map (λ s. j ∷ s) (selections n a r (suc i))) (columns n a i n 1)
-      ∙ flatMap-same _ _ (λ s. map-map _ (λ rest. s ∷ rest) (selections n a r (suc i))
-      ∙ map-same _ _ (λ rest. foldl-append (constrain (suc n)) part (rowConstraints n a d cols i s) (rowsConstraints n a d (cols ++ (s ∷ [])) (suc i) rest)) (selections n a r (suc i))) (columns n a i n 1)
+  by-columns part cols i h =
+      let below = suc n - suc i in
+      let r : suc n - i ≡ suc below = omega arith in
+      let w : n ≡ suc n - 1 = omega arith in
+      rw r (map-flatMap (λ rest. foldl (constrain (suc n)) part (rowsConstraints n a d cols i rest))
+      (λ j. map (λ s. j ∷ s) (selections n a below (suc i))) (columns n a i n 1)
+      ∙ ap (λ f. flatMap f (columns n a i n 1)) (fun-ext (λ s.
+      map-map _ (λ rest. s ∷ rest) (selections n a below (suc i))
+      ∙ ap (λ f. map f (selections n a below (suc i)))
+      (fun-ext (λ rest. foldl-append (constrain (suc n)) part (rowConstraints n a d cols i s) (rowsConstraints n a d (cols ++ (s ∷ [])) (suc i) rest)))))
+      ∙ ap (λ (t : ℕ). flatMap (byColumn part cols i below) (columns n a i t 1)) w)
+
+  -- all rows picked
+  pub extensions-end : (part : Option Matrix) (cols : List ℕ) (i : ℕ) → n < i → extensions n a d part cols i (suc n - i) ≡ part ∷ []
+  unfolding extensions selections rowsConstraints
+  extensions-end part cols i h = let e : suc n - i ≡ 0 = omega arith in rw e
 
   -- of an empty set nothing is kept
   pub extensions-none : (cols : List ℕ) (i r : ℕ) (kept : List Matrix) → foldl keep kept (extensions n a d none cols i r) ≡ kept
   unfolding extensions
   extensions-none cols i r kept =
-      keep-none (λ rest. foldl (constrain (suc n)) none (rowsConstraints n a d cols i rest)) (λ rest. constrain-none (suc n) (rowsConstraints n a d cols i rest)) kept (selections n a r i)
-
-  -- ---- the columns of a row from column s on
-  module _ (E : ℕ → List (Option Matrix)) (i s : ℕ) (h : s ≤ n) where
-    pub columns-blank : (kept : List Matrix) → time n a i s ≡ blank
-        → foldl keep kept (flatMap E (columns n a i (suc n - s) s)) ≡ foldl keep kept (flatMap E (columns n a i (suc n - suc s) (suc s)))
-    unfolding columns isTime
-    columns-blank kept e =
-        let z : suc n - s ≡ suc (suc n - suc s) = omega arith in
-        rw (z, e)
-
-    pub columns-time : (kept : List Matrix) {v : lib.IntN.ℤ} → time n a i s ≡ secs v
-        → foldl keep kept (flatMap E (columns n a i (suc n - s) s)) ≡ foldl keep (foldl keep kept (E s)) (flatMap E (columns n a i (suc n - suc s) (suc s)))
-    unfolding columns isTime flatMap
-    columns-time kept e =
-        let z : suc n - s ≡ suc (suc n - suc s) = omega arith in
-        rw (z, e) (foldl-append keep kept (E s) (flatMap E (columns n a i (suc n - suc s) (suc s))))
+      keep-none (λ rest. foldl (constrain (suc n)) none (rowsConstraints n a d cols i rest))
+      (λ rest. constrain-none (suc n) (rowsConstraints n a d cols i rest)) kept (selections n a r i)

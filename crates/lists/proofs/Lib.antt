@@ -1,10 +1,8 @@
-pub mod Memory
-pub mod Keeping
+-- The laws that the functions' proofs share; a caller's proof cites Held.
+pub mod Held
 pub mod Extensions
-pub mod Seen
+pub mod Arrays
 pub mod Columns
-pub mod Selecting
-pub mod Covered
 pub mod Going
 pub mod Starting
 pub mod Pulling

@@ -14,11 +14,12 @@ use lib.Dec.{eqb, eqb→eq, eqb-refl, T}
 use Rattle.ints.proofs.Integers.{up, dn, ints, add-ud, neg-ud, sub-ud}
 use Rattle.model.specs.Bound as B
 use Rattle.model.specs.Bound.{Bound, most, LeB, any, Holds, plus}
-use Rattle.model.proofs.Bounds.{bounds, holds-none, holds-sum, under, over, between, leB-refl, leB-trans, plus-assoc, plus-left-comm, plus-comm, plus-none, tighter-either, tighter-left, tighter-right}
+use Rattle.model.proofs.Bounds.{bounds, holds-none, holds-sum, across, over, between, leB-refl, leB-trans}
+use Rattle.model.proofs.Bounds.{plus-assoc, plus-left-comm, plus-comm, plus-none, tighter-either, tighter-left, tighter-right}
 use Rattle.model.specs.Lists.{tabulate, Every, done, both}
 use Rattle.model.specs.Matrix.{Matrix, entry, relaxed, Member}
 use Rattle.model.specs.Search.{tightest}
-use Rattle.model.specs.Conditions.{Closed, earliest, latest, tightestOf}
+use Rattle.model.specs.Conditions.{Closed, howEarly, howLate, tightestOf}
 use Rattle.model.proofs.Listed.{at-tabulate, every-tabulate}
 use Rattle.model.proofs.Closed.{Within, kept, within-closed}
 use Rattle.model.proofs.Members.{within-sound}
@@ -73,7 +74,7 @@ module _ (m : ℕ) (d : Matrix) where
 
   -- v is a time for t
   abbrev pub Possible : ℕ → (ℕ → ℤ) → ℤ → Type 0
-  Possible t x v = Holds v (latest m d t x) × Holds (negℤ v) (earliest m d t x)
+  Possible t x v = Holds v (howLate m d t x) × Holds (negℤ v) (howEarly m d t x)
 
   module _ (cl : Closed m d) where
     module _ (t : ℕ) (x : ℕ → ℤ) (ht : t < m) (ok : Upto t x) where
@@ -87,14 +88,14 @@ module _ (m : ℕ) (d : Matrix) where
           (omega (ints, sub-ud (x s′) (x s), sub-ud (x s) (x s′), add-ud (x s′ -ℤ x s) (x s -ℤ x s′))))
 
       -- there is a time for t
-      room : LeB (most (pos 0)) (plus (latest m d t x) (earliest m d t x))
+      room : LeB (most (pos 0)) (plus (howLate m d t x) (howEarly m d t x))
       unfolding plus
       room =
-          tightestOf-either (λ u. LeB (most (pos 0)) (plus u (earliest m d t x))) t _ any (λ s h.
+          tightestOf-either (λ u. LeB (most (pos 0)) (plus u (howEarly m d t x))) t _ any (λ s h.
           tightestOf-either (λ w. LeB (most (pos 0)) (plus (plus (D t s) (most (x s))) w)) t _ (rw plus-none any) (λ s′ h′. room-at s s′ h h′))
 
       pub next-time : (v : ℤ) × Possible t x v
-      next-time = let (v, hu, hw) = between (latest m d t x) (earliest m d t x) room in (v, (hu, hw))
+      next-time = let (v, hu, hw) = between (howLate m d t x) (howEarly m d t x) room in (v, (hu, hw))
 
       -- it is set: y is x below t, and has it at t
       pub upto-next : (y : ℕ → ℤ) → ((s : ℕ) → s < t → y s ≡ x s) → Possible t x (y t) → Upto (suc t) y
@@ -102,7 +103,7 @@ module _ (m : ℕ) (d : Matrix) where
         where
           go : Dec (i ≡ t) → Dec (j ≡ t) → Holds (y i -ℤ y j) (D i j)
           go (yes p) (yes q) = rw (p, q, cl .diag t ht) (holds-none (y t))
-          go (yes p) (no q) = rw (p, same j (omega arith)) (under (y t) (x j) (D t j) (rw (plus-comm (D t j)) at (tightestOf-each t _ (f .0) j (omega arith))))
+          go (yes p) (no q) = rw (p, same j (omega arith)) (across (y t) (x j) (D t j) .0 (tightestOf-each t _ (f .0) j (omega arith)))
           go (no p) (yes q) = rw (q, same i (omega arith)) (over (y t) (x i) (D i t) (tightestOf-each t _ (f .1) i (omega arith)))
           go (no p) (no q) = rw (same i (omega arith), same j (omega arith)) (ok i j (omega arith) (omega arith))
 
@@ -132,7 +133,8 @@ module _ (m : ℕ) (d : Matrix) (cl : Closed m d) (i j : ℕ) (hi : i < m) (hj :
   pub reaches : (v : ℤ) → Holds v (entry m d i j) → (x : ℕ → ℤ) × Member m d x × v ≤ℤ (x i -ℤ x j)
   unfolding up dn
   reaches v h =
-      let w : Within m d j i (most (negℤ v)) (some (relaxed m d j i (negℤ v))) = kept (holds-sum v (negℤ v) (pos 0) h (leB-refl _) (omega (ints, neg-ud v, add-ud v (negℤ v)))) in
+      let w : Within m d j i (most (negℤ v)) (some (relaxed m d j i (most (negℤ v))))
+      = kept (holds-sum v (negℤ v) (pos 0) h (leB-refl _) (omega (ints, neg-ud v, add-ud v (negℤ v)))) in
       let (x, mem) = has-member m _ (within-closed cl hj hi w) in
       let (old, new) = within-sound hj hi x cl w mem in
       (x, old, omega (bounds, neg-ud v, sub-ud (x i) (x j), sub-ud (x j) (x i)))

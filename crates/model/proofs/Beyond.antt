@@ -9,7 +9,7 @@ use mathlib.Core.Bool.{Bool, true, false, _&&_, _||_}
 use mathlib.Core.List.{List, [], _∷_}
 use lib.IntN.{ℤ, _+ℤ_, _-ℤ_}
 use lib.ListN.{length, length-map}
-use Rattle.ints.proofs.Integers.{ints, add-ud, sub-ud}
+use Rattle.ints.proofs.Integers.{impossible, ints, add-ud, sub-ud}
 use Rattle.model.specs.Lists.{tabulate, allOf, Every, done, both}
 use Rattle.model.specs.Bound as B
 use Rattle.model.specs.Bound.{Bound, most, any, Holds}
@@ -31,14 +31,15 @@ allOf-true p (x ∷ xs) e = let (h, t) = and-true (p x) (allOf p xs) e in both h
 none-is : (b : Bound) → isNone b ≡ true → b ≡ B.Bound.none
 unfolding isNone
 none-is B.Bound.none e = refl
-none-is (most b) e = let z : _≡_ {A = ℕ} 0 1 = cc in absurd (omega arith)
+none-is (most b) e = impossible cc
 
 module _ (n : ℕ) (b : List Bound) (only : onlyDifferences n b ≡ true) where
   no-clock : (j : ℕ) → j < n → (pairBound n b 0 (suc j) ≡ B.Bound.none) × (pairBound n b (suc j) 0 ≡ B.Bound.none)
   unfolding onlyDifferences
   no-clock j h =
       let e : 1 + j ≡ suc j = omega arith in
-      let (p, q) = and-true _ _ (rw e at (at-tabulate n 1 (λ j. j) (allOf-true (λ j. isNone (pairBound n b 0 j) && isNone (pairBound n b j 0)) (tabulate n 1 (λ j. j)) only) j h)) in
+      let all = allOf-true (λ j. isNone (pairBound n b 0 j) && isNone (pairBound n b j 0)) (tabulate n 1 (λ j. j)) only in
+      let (p, q) = and-true _ _ (rw e at (at-tabulate n 1 (λ j. j) all j h)) in
       (none-is _ p, none-is _ q)
 
   -- it is kept where a number is added to all times, or taken off
@@ -119,5 +120,7 @@ pub beyond : (w : Network) → Regular (w .n) (w .times) → (r : Repeat) → Le
     → (k : ℕ) → 1 ≤ k → Met w k → ⊥
 beyond w reg r s differences none k l m =
     let is = s .repeated in
-    let q-is : suc (r .q - 1) ≡ r .q = omega (arith, is .from-one, is .earlier) in
-    beyond-from w reg (r .p - 1) (r .q - 1) (r .number) (is .again) (omega (arith, is .from-one, is .earlier)) differences (rw q-is none) (suc k) k (omega arith) l m
+    let lower = is .from-one in
+    let upper = is .earlier in
+    let q-is : suc (r .q - 1) ≡ r .q = omega arith in
+    beyond-from w reg (r .p - 1) (r .q - 1) (r .number) (is .again) (omega arith) differences (rw q-is none) (suc k) k (omega arith) l m

@@ -1,13 +1,14 @@
 -- The laws of bounds: an ordered commutative monoid with the tighter of two, and what it is for a number to keep to one.
 -- The theory goes by these alone: another kind of bound needs these laws anew and nothing else.
-use Prim.Native.Nat.{ℕ, _+_, _≤_}
+use Prim.Native.Nat.{_+_, _≤_}
 use mathlib.Core.Path.{_≡_, refl, ap, sym, _∙_}
+use mathlib.Core.Logic.{_↔_}
 use mathlib.Core.Bool.{Bool, true, false, cond}
 use lib.IntN.{ℤ, pos, negℤ, _+ℤ_, _-ℤ_}
-use lib.Signed.{leZ, ltZ}
+use lib.Signed.{leZ}
 use Rattle.model.specs.Bound as B
 use Rattle.model.specs.Bound.{Bound, most, LeB, any, fin, Holds, plus, tighter, negative}
-use Rattle.ints.proofs.Integers.{up, dn, ints, le-nat, nat-le, add-ud, sub-ud, neg-ud}
+use Rattle.ints.proofs.Integers.{impossible, up, dn, ints, le-nat, nat-le, add-ud, sub-ud, neg-ud}
 
 -- omega's way in and out of the order at two numbers
 pub leB-nat : {a b : ℤ} → LeB (most a) (most b) → up a + dn b ≤ up b + dn a
@@ -102,17 +103,8 @@ negative-false (most b) e = omega bounds
 
 pub negative-true : (b : Bound) → negative b ≡ true → LeB (most (pos 0)) b → ⊥
 unfolding negative
-negative-true B.Bound.none e h = let z : _≡_ {A = ℕ} 0 1 = cc in omega bounds
+negative-true B.Bound.none e h = impossible cc
 negative-true (most b) e h = omega bounds
-
-pub not-negative : {b : Bound} → LeB (most (pos 0)) b → negative b ≡ false
-unfolding negative
-not-negative any = refl
-not-negative (fin {c} h) = go (ltZ c (pos 0)) refl
-  where
-    go : (t : Bool) → ltZ c (pos 0) ≡ t → t ≡ false
-    go true e = absurd (omega bounds)
-    go false e = refl
 
 -- ---- numbers that keep to a bound
 
@@ -126,16 +118,16 @@ pub holds-sum : (u v w : ℤ) {b c : Bound} → Holds u b → Holds v c → w �
 unfolding plus
 holds-sum u v w h k e = rw e (plus-mono h k)
 
--- a bound moves across
-pub under : (v a : ℤ) (b : Bound) → Holds v (plus (most a) b) → Holds (v -ℤ a) b
+-- a number moves across
+pub across : (v a : ℤ) (b : Bound) → Holds v (plus b (most a)) ↔ Holds (v -ℤ a) b
 unfolding plus
-under v a B.Bound.none h = any
-under v a (most b) h = omega (bounds, add-ud a b, sub-ud v a)
+across v a B.Bound.none = (λ h. any, λ h. any)
+across v a (most b) = (λ h. omega (bounds, add-ud b a, sub-ud v a), λ h. omega (bounds, add-ud b a, sub-ud v a))
 
 pub over : (v a : ℤ) (b : Bound) → Holds (negℤ v) (plus b (most (negℤ a))) → Holds (a -ℤ v) b
-unfolding plus
-over v a B.Bound.none h = any
-over v a (most b) h = omega (bounds, neg-ud v, neg-ud a, add-ud b (negℤ a), sub-ud a v)
+over v a b h =
+    let e : negℤ v -ℤ negℤ a ≡ a -ℤ v = omega (ints, neg-ud v, neg-ud a, sub-ud (negℤ v) (negℤ a), sub-ud a v) in
+    rw e at (across (negℤ v) (negℤ a) b .0 h)
 
 -- a number between two bounds that leave room
 pub between : (u w : Bound) → LeB (most (pos 0)) (plus u w) → (v : ℤ) × Holds v u × Holds (negℤ v) w

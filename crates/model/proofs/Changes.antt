@@ -11,6 +11,8 @@ use lib.IntN.{ℤ}
 use lib.Arith.{digits-lt, digits-div, digits-mod}
 use lib.ListN.{length, take, drop, getD, set, length-take, length-drop}
 use lib.Seq.{getD-set-same, getD-set-other, take-set-le, take-set-lt, drop-drop, drop-set-lt, drop-set-add}
+use Rattle.model.specs.Sizes.{mostDepartures, timeLimit, tableSize, mostTimes}
+use Rattle.ints.proofs.Integers.{impossible}
 use Rattle.model.specs.declared.Slot.{Slot}
 use Rattle.model.specs.declared.Case.{Case}
 use Rattle.model.specs.declared.Fault.{Fault}
@@ -24,7 +26,8 @@ use Rattle.model.specs.Faults.{caseFault, roomFault, callFault}
 use Rattle.model.specs.Changes.{timePlace, changed, changeFault, preview, workspaceAfterPreview, PreviewIs, commitFault, commit, PreviewDemands}
 use Rattle.model.specs.Conditions.{InLimit}
 use Rattle.model.proofs.Limits.{orElse-none, when-none, or-is-false, ltb-is-false, entryFault-none, rowsFault-none, no-fault}
-use Rattle.model.proofs.Limits.{RowsInLimit, no-row, row, getD-times}
+use Rattle.model.proofs.Limits.{RowsInLimit, no-row, row}
+use Rattle.model.proofs.Places.{getD-times}
 use Rattle.model.proofs.DemandsHold.{demands}
 
 -- ---- the fault of one changed entry
@@ -47,7 +50,7 @@ entryFault-set limit f p (suc k) e (both h hs) l =
 -- in row k, counted from 0, of rows within their limits
 rowsFault-set : {n r : ℕ} {es : List Slot} → RowsInLimit n r es → r * n ≤ length es → (p k j : ℕ) (e : Slot) → k < r → j < n
     → rowsFault n r p (set es (k * n + j) e) ≡
-    orElse (when (beyond 86400 e) (fault.Time (p + (k * n + j))))
+    orElse (when (beyond timeLimit e) (fault.Time (p + (k * n + j))))
     (when (not (regular (map timeOf (take n (drop (k * n) (set es (k * n + j) e)))))) (fault.EmptyRow (p + k * n)))
 unfolding rowsFault
 rowsFault-set no-row l p k j e h m = absurd (omega arith)
@@ -57,7 +60,7 @@ rowsFault-set {n} (row {r} {es} a t rest) l p zero j e h m =
     let none-left : p + 0 ≡ p = omega arith in
     let long : j < length (take n es) = simp length-take (omega arith) in
     let others = rowsFault-none n r (p + n) (drop n es) .1 rest in
-    let this = entryFault-set 86400 fault.Time p j e a long in
+    let this = entryFault-set timeLimit fault.Time p j e a long in
     rw (at, first, none-left, drop-set-lt n es j e m, others, orElse-with-none, take-set-lt n es j e m, this)
 rowsFault-set {n} (row {r} {es} a t rest) l p (suc k) j e h m =
     let at : suc k * n + j ≡ n + (k * n + j) = omega arith in
@@ -66,7 +69,7 @@ rowsFault-set {n} (row {r} {es} a t rest) l p (suc k) j e h m =
     let first : p + (n + k * n) ≡ p + n + k * n = omega arith in
     let later = rowsFault-set rest (omega (arith, length-drop n es)) (p + n) k j e (omega arith) m in
     rw (at, from, entry, first, ← (drop-drop (k * n) n (set es (n + (k * n + j)) e)), drop-set-add n es (k * n + j) e)
-    (rw (take-set-le n es (n + (k * n + j)) e (omega arith), entryFault-none 86400 fault.Time p (take n es) .1 a, t) later)
+    (rw (take-set-le n es (n + (k * n + j)) e (omega arith), entryFault-none timeLimit fault.Time p (take n es) .1 a, t) later)
 
 -- ---- a change in row i and column j of a case without the faults 2 to 6
 -- the row and the column are there
@@ -78,7 +81,7 @@ pub record Inside (c : Case) (i j : ℕ) : Type 0 where
 
 module _ {c : Case} where
   -- the entry is one of the table
-  place-in : {i j : ℕ} → Inside c i j → timePlace (c .n) i j < c .n * c .n
+  place-in : {i j : ℕ} → Inside c i j → timePlace (c .n) i j < tableSize (c .n)
   place-in {i} {j} h = digits-lt {q = i - 1} {m = c .n} {r = j - 1} {c = c .n} (omega arith) (omega arith)
 
   -- and of no other row and column
@@ -93,7 +96,7 @@ abbrev pub usualFault : Case → ℕ → ℕ → Slot → Option Fault
 usualFault c i j e =
     let first = (i - 1) * c .n in
     let row = map timeOf (take (c .n) (drop first (changed c i j e .times))) in
-    orElse (when (beyond 86400 e) (fault.Time (timePlace (c .n) i j))) (when (not (regular row)) (fault.EmptyRow first))
+    orElse (when (beyond timeLimit e) (fault.Time (timePlace (c .n) i j))) (when (not (regular row)) (fault.EmptyRow first))
 
 -- c′ is c but for the time in row i and column j, which is that of e
 pub record OnlyThere (c : Case) (i j : ℕ) (e : Slot) (c′ : Case) : Type 0 where
@@ -114,13 +117,13 @@ module _ (c : Case) (i j : ℕ) where
     λ h. (h .0, ((h .1 .row-from, h .1 .row-to), (h .1 .column-from, h .1 .column-to))),
   )
 
-  -- without one, the entry is one of the forty-nine
-  pub place-small : changeFault c i j ≡ none → timePlace (c .n) i j < 49
+  -- without one, the entry is one of the table
+  pub place-small : changeFault c i j ≡ none → timePlace (c .n) i j < mostTimes
   unfolding caseFault tableFault outside
   place-small clean =
       let (own, here) = no-change-fault .0 clean in
       let facts = simp no-fault at own in
-      let few : c .n ≤ 7 = omega arith in
+      let few : c .n ≤ mostDepartures = omega arith in
       omega (arith, place-in here, mul-le-mul few few)
 
   module _ (e : Slot) (own : caseFault c ≡ none) (here : Inside c i j) where
@@ -131,7 +134,7 @@ module _ (c : Case) (i j : ℕ) where
         let clean = no-change-fault .1 (own, here) in
         (rw (clean, preview), rw (clean, workspaceAfterPreview))
 
-    module _ (whole : c .n * c .n ≤ length (c .times)) where
+    module _ (whole : tableSize (c .n) ≤ length (c .times)) where
       -- the copy by itself meets no other fault
       usual : caseFault (changed c i j e) ≡ usualFault c i j e
       unfolding caseFault tableFault patternsFault changed
@@ -164,14 +167,14 @@ module _ (c : Case) (i j : ℕ) where
             start = refl;
             target = refl;
             entries = λ p z other. getD-set-other (c .times) at p e z other;
-            there = getD-times (c .n * c .n) (set (c .times) at e) at in-table ∙ ap timeOf (getD-set-same (c .times) at e nothing (omega arith));
+            there = getD-times (tableSize (c .n)) (set (c .times) at e) at in-table ∙ ap timeOf (getD-set-same (c .times) at e nothing (omega arith));
             elsewhere = λ k l inside other.
                 let p = timePlace (c .n) k l in
                 let apart : p ≢ at = λ same. other (places-once inside here same) in
                 let in-table = place-in inside in
-                getD-times (c .n * c .n) _ p in-table
+                getD-times (tableSize (c .n)) _ p in-table
                 ∙ ap timeOf (getD-set-other (c .times) at p e nothing apart)
-                ∙ sym (getD-times (c .n * c .n) (c .times) p in-table);
+                ∙ sym (getD-times (tableSize (c .n)) (c .times) p in-table);
           }
 
   -- the demands hold of a preview

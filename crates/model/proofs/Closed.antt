@@ -3,11 +3,12 @@ use Prim.Native.Nat.{ℕ, _<_}
 use mathlib.Core.Path.{_≡_, refl, _∙_}
 use mathlib.Core.Bool.{Bool, true, false, cond}
 use mathlib.Core.Option.{Option, none, some}
-use lib.IntN.{ℤ, pos}
+use lib.IntN.{pos}
 use lib.Dec.{eqb, eqb→eq, eqb-refl, T}
 use Rattle.model.specs.Bound as B
 use Rattle.model.specs.Bound.{Bound, most, LeB, any, plus, tighter, negative}
-use Rattle.model.proofs.Bounds.{leB-refl, leB-trans, plus-mono, plus-assoc, plus-comm, plus-zero, tighter-either, tighter-of-le, tighter-left, tighter-right, negative-false, negative-true}
+use Rattle.model.proofs.Bounds.{leB-refl, leB-trans, plus-mono, plus-assoc, plus-comm, plus-zero}
+use Rattle.model.proofs.Bounds.{tighter-either, tighter-of-le, tighter-left, tighter-right, negative-false, negative-true}
 use Rattle.model.specs.Matrix.{Matrix, entry, matrix, diagonal, everything, relaxed, within}
 use Rattle.model.specs.Conditions.{Closed}
 use Rattle.model.proofs.Entries.{length-matrix, entry-matrix}
@@ -65,15 +66,15 @@ new-around p c q r h ok =
     let swap : plus (plus q p) c ≡ plus (plus p c) q = plus-assoc q p c ∙ plus-comm q (plus p c) in
     rw swap at (leB-trans ok (plus-mono h (leB-refl c)))
 
--- one more constraint, x(a) - x(b) ≤ c, that the matrix does not rule out
-module _ (m : ℕ) (d : Matrix) (cl : Closed m d) (a b : ℕ) (c : ℤ) (ha : a < m) (hb : b < m)
-    (ok : LeB (most (pos 0)) (plus (entry m d b a) (most c))) where
+-- one more constraint, that x(a) - x(b) is within c, that the matrix does not rule out
+module _ (m : ℕ) (d : Matrix) (cl : Closed m d) (a b : ℕ) (c : Bound) (ha : a < m) (hb : b < m)
+    (ok : LeB (most (pos 0)) (plus (entry m d b a) c)) where
   abbrev D : ℕ → ℕ → Bound
   D = entry m d
 
   -- the way from i to j by the new constraint
   abbrev via : ℕ → ℕ → Bound
-  via i j = plus (plus (D i a) (most c)) (D b j)
+  via i j = plus (plus (D i a) c) (D b j)
 
   relaxed-triangle : (i j k : ℕ) → i < m → j < m → k < m
       → LeB (tighter (D i j) (via i j)) (plus (tighter (D i k) (via i k)) (tighter (D k j) (via k j)))
@@ -81,10 +82,10 @@ module _ (m : ℕ) (d : Matrix) (cl : Closed m d) (a b : ℕ) (c : ℤ) (ha : a 
       tighter-either (λ u. LeB least (plus u (tighter (D k j) (via k j)))) (D i k) (via i k)
       (tighter-either (λ u. LeB least (plus (D i k) u)) (D k j) (via k j)
       (leB-trans (tighter-left _ _) (cl .triangle i j k hi hj hk))
-      (leB-trans (tighter-right _ _) (old-then-new (D i k) (D k a) (D i a) (most c) (D b j) (cl .triangle i a k hi ha hk))))
+      (leB-trans (tighter-right _ _) (old-then-new (D i k) (D k a) (D i a) c (D b j) (cl .triangle i a k hi ha hk))))
       (tighter-either (λ u. LeB least (plus (via i k) u)) (D k j) (via k j)
-      (leB-trans (tighter-right _ _) (new-then-old (D i a) (most c) (D b k) (D b j) (D k j) (cl .triangle b j k hb hj hk)))
-      (leB-trans (tighter-right _ _) (new-then-new (D i a) (most c) (D b k) (D k a) (D b j) (D b a) (cl .triangle b a k hb ha hk) ok)))
+      (leB-trans (tighter-right _ _) (new-then-old (D i a) c (D b k) (D b j) (D k j) (cl .triangle b j k hb hj hk)))
+      (leB-trans (tighter-right _ _) (new-then-new (D i a) c (D b k) (D k a) (D b j) (D b a) (cl .triangle b a k hb ha hk) ok)))
     where
       least : Bound
       least = tighter (D i j) (via i j)
@@ -93,7 +94,7 @@ module _ (m : ℕ) (d : Matrix) (cl : Closed m d) (a b : ℕ) (c : ℤ) (ha : a 
   relaxed-diagonal i h = tighter-of-le around ∙ cl .diag i h
     where
       around : LeB (D i i) (via i i)
-      around = rw (cl .diag i h) (new-around (D i a) (most c) (D b i) (D b a) (cl .triangle b a i hb ha h) ok)
+      around = rw (cl .diag i h) (new-around (D i a) c (D b i) (D b a) (cl .triangle b a i hb ha h) ok)
 
   pub relaxed-closed : Closed m (relaxed m d a b c)
   unfolding relaxed
@@ -102,18 +103,20 @@ module _ (m : ℕ) (d : Matrix) (cl : Closed m d) (a b : ℕ) (c : ℤ) (ha : a 
 -- the three ways that `within` goes
 pub data Within (m : ℕ) (d : Matrix) (a b : ℕ) : Bound → Option Matrix → Type 0 where
   free : Within m d a b B.Bound.none (some d)
-  ruled-out : {c : ℤ} → (LeB (most (pos 0)) (plus (entry m d b a) (most c)) → ⊥) → Within m d a b (most c) none
-  kept : {c : ℤ} → LeB (most (pos 0)) (plus (entry m d b a) (most c)) → Within m d a b (most c) (some (relaxed m d a b c))
+  ruled-out : {c : Bound} → (LeB (most (pos 0)) (plus (entry m d b a) c) → ⊥) → Within m d a b c none
+  kept : {c : Bound} → LeB (most (pos 0)) (plus (entry m d b a) c) → Within m d a b c (some (relaxed m d a b c))
+
+by-test : (m : ℕ) (d : Matrix) (a b : ℕ) (c : Bound) → Within m d a b c (cond (negative (plus (entry m d b a) c)) none (some (relaxed m d a b c)))
+by-test m d a b c = go (negative (plus (entry m d b a) c)) refl
+  where
+    go : (t : Bool) → negative (plus (entry m d b a) c) ≡ t → Within m d a b c (cond t none (some (relaxed m d a b c)))
+    go true e = ruled-out (negative-true _ e)
+    go false e = kept (negative-false _ e)
 
 pub within-is : (m : ℕ) (d : Matrix) (a b : ℕ) (limit : Bound) → Within m d a b limit (within m d a b limit)
 unfolding within
 within-is m d a b B.Bound.none = free
-within-is m d a b (most c) = go (negative (plus (entry m d b a) (most c))) refl
-  where
-    go : (t : Bool) → negative (plus (entry m d b a) (most c)) ≡ t
-        → Within m d a b (most c) (cond t none (some (relaxed m d a b c)))
-    go true e = ruled-out (negative-true _ e)
-    go false e = kept (negative-false _ e)
+within-is m d a b (most c) = by-test m d a b (most c)
 
 pub within-closed : {m : ℕ} {d : Matrix} {a b : ℕ} {limit : Bound} {d′ : Matrix}
     → Closed m d → a < m → b < m → Within m d a b limit (some d′) → Closed m d′

@@ -7,18 +7,22 @@ use mathlib.Core.Logic.{⊎-elim}
 use mathlib.Core.Bool.{true, false}
 use mathlib.Core.Option.{Option, none, some}
 use lib.ListN.{length}
+use Rattle.ints.proofs.Integers.{impossible}
 use Rattle.model.specs.Matrix.{Matrix}
 use Rattle.model.specs.Network.{Network}
 use Rattle.model.specs.Search.{lists, firstCommon, someLarge, Outcome, reached, clear, never, tableFull, boundTooLarge, pick, Plan, plan, outcome}
 use Rattle.model.specs.Demands.{Met, NotBefore, First, EndsEarly, EndsAt, NeverHolds}
 use Rattle.model.specs.Conditions.{Regular}
 use Rattle.model.proofs.Repeats.{repeat-is}
-use Rattle.model.proofs.Searched.{met-by, unmet, Settled, full, large, met, unsettled, settled-is, settledAt, Ending, stopped, passed, outcome-ends, Short, Planned, whole, short, plan-is}
+use Rattle.model.proofs.Searched.{met-by, unmet, Settled, full, large, met, unsettled, settled-is, settledAt}
+use Rattle.model.proofs.Searched.{Ending, stopped, passed, outcome-ends, Short, Planned, whole, short, plan-is}
 
 pub data Concluded (w : Network) (capacity : ℕ) : Outcome → Type 0 where
-  reached-at : {d : Matrix} {k : ℕ} → First w k → firstCommon (w .n) (w .start) (lists w k) ≡ some d → (EndsEarly w capacity → ⊥) → Concluded w capacity (reached k (pick (w .n) d))
+  reached-at : {d : Matrix} {k : ℕ} → First w k → firstCommon (w .n) (w .start) (lists w k) ≡ some d → (EndsEarly w capacity → ⊥)
+      → Concluded w capacity (reached k (pick (w .n) d))
   table-full : {k : ℕ} → EndsAt w capacity k → capacity < length (lists w k) → Concluded w capacity (tableFull k)
-  bound-too-large : {k : ℕ} → k ≤ w .horizon → EndsAt w capacity k → length (lists w k) ≤ capacity → someLarge (lists w k) ≡ true → Concluded w capacity (boundTooLarge k)
+  bound-too-large : {k : ℕ} → k ≤ w .horizon → EndsAt w capacity k → length (lists w k) ≤ capacity → someLarge (lists w k) ≡ true
+      → Concluded w capacity (boundTooLarge k)
   clear-at : (Short w → ⊥) → NotBefore w (suc (w .horizon)) → (EndsEarly w capacity → ⊥) → Concluded w capacity (clear (w .horizon))
   never-at : NeverHolds w capacity → Concluded w capacity never
 
@@ -26,9 +30,9 @@ module _ (w : Network) (capacity : ℕ) (reg : Regular (w .n) (w .times)) (some-
   -- a cycle that settles nothing
   open-at : (k : ℕ) {o : Option Outcome} → Settled w capacity k (lists w k) o → o ≡ none
       → (length (lists w k) ≤ capacity) × (someLarge (lists w k) ≡ false) × (Met w k → ⊥)
-  open-at k (full h) e = let z : _≡_ {A = ℕ} 0 1 = cc in absurd (omega arith)
-  open-at k (large h l) e = let z : _≡_ {A = ℕ} 0 1 = cc in absurd (omega arith)
-  open-at k (met h l f) e = let z : _≡_ {A = ℕ} 0 1 = cc in absurd (omega arith)
+  open-at k (full h) e = impossible cc
+  open-at k (large h l) e = impossible cc
+  open-at k (met h l f) e = impossible cc
   open-at k (unsettled h l f) e = (h, l, unmet w reg k f)
 
   not-before : (j : ℕ) → ((i : ℕ) → 1 ≤ i → i < j → settledAt w capacity i ≡ none) → NotBefore w j
@@ -39,7 +43,7 @@ module _ (w : Network) (capacity : ℕ) (reg : Regular (w .n) (w .times)) (some-
   met-first j l m ends f g early = go (decLt (early .at) j) (decLt j (early .at))
     where
       fits : (i : ℕ) → early .at ≡ i → length (lists w i) ≤ capacity → someLarge (lists w i) ≡ false → ⊥
-      fits i e h k = ⊎-elim (λ t. let u = rw e at t in omega arith) (λ t. let u = rw e at t in let z : _≡_ {A = ℕ} 0 1 = cc in omega arith) (early .too-much)
+      fits i e h k = ⊎-elim (λ t. let u = rw e at t in omega arith) (λ t. let u = rw e at t in impossible cc) (early .too-much)
 
       go : Dec (early .at < j) → Dec (j < early .at) → ⊥
       go (yes h) d = let (a, b) = ends .fit-before (early .at) (early .from-one) h in fits (early .at) refl a b
@@ -56,13 +60,13 @@ module _ (w : Network) (capacity : ℕ) (reg : Regular (w .n) (w .times)) (some-
       let u = ends .searched in
       let m : Met w j = (pick (w .n) c, met-by w reg j k) in
       rw (← q) (reached-at (record { from-one = l; to-horizon = omega arith; not-before = ends .unmet; met = m }) k (met-first j l m ends f g))
-  settles j l h ends (unsettled f g k) p e = let z : _≡_ {A = ℕ} 0 1 = cc in absurd (omega arith)
+  settles j l h ends (unsettled f g k) p e = impossible cc
 
   -- past all cycles
   never-early : ((i : ℕ) → 1 ≤ i → i ≤ plan w .cycles → settledAt w capacity i ≡ none) → EndsEarly w capacity → ⊥
   never-early all early =
       let (h, l, _) = open-at (early .at) (settled-is w capacity (early .at) (lists w (early .at))) (all (early .at) (early .from-one) (early .searched)) in
-      ⊎-elim (λ k. omega arith) (λ k. let z : _≡_ {A = ℕ} 0 1 = cc in omega arith) (early .too-much)
+      ⊎-elim (λ k. omega arith) (λ k. impossible cc) (early .too-much)
 
   past : {p : Plan} → Planned w p → plan w ≡ p → ((i : ℕ) → 1 ≤ i → i ≤ plan w .cycles → settledAt w capacity i ≡ none) → Concluded w capacity (p .end)
   past (whole no-short) e all =

@@ -1,12 +1,12 @@
 -- The three demands hold, of every call.
 use Prim.Native.Nat.{ℕ, suc, _≤_, _<_}
 use native.Mathlib.Omega.{arith}
-use native.Mathlib.Decide.{decLt}
 use mathlib.Core.Path.{_≡_, refl, ap, _∙_}
 use mathlib.Core.Logic.{_↔_, _⊎_, inl, inr, ⊎-elim}
 use mathlib.Core.List.{List, [], _∷_, map}
 use mathlib.Core.Option.{none, some}
-use mathlib.Core.Bool.{true, false}
+use mathlib.Core.Bool.{false}
+use Rattle.ints.proofs.Integers.{impossible}
 use Rattle.model.specs.declared.Fault.the-variants as fault
 use lib.IntN.{ℤ}
 use lib.ListN.{length, take, length-map}
@@ -17,12 +17,13 @@ use Rattle.model.specs.declared.Verdict.{Verdict}
 use Rattle.model.specs.declared.Verdict.the-variants as verdict
 use Rattle.model.specs.Matrix.{Matrix}
 use Rattle.model.specs.Network.{Network}
-use Rattle.model.specs.Search.{Outcome, reached, clear, never, tableFull, boundTooLarge, pick, outcome, lists, someLarge}
+use Rattle.model.specs.Search.{Outcome, reached, clear, never, tableFull, boundTooLarge, firstCommon, pick, outcome, lists, someLarge}
 use Rattle.model.specs.Faults.{network, callFault}
-use Rattle.model.specs.Answers.{seconds, cycleNumber, sevenTimes, numbersOf, refusal, answered, answer, workspaceAfter, answerPacked, workspaceAfterPacked}
+use Rattle.model.specs.Answers.{seconds, cycleNumber, allTimes, numbersOf, refusal, answered, answer, workspaceAfter, answerPacked, workspaceAfterPacked}
 use Rattle.model.specs.Zones.{ListsOfZones}
 use Rattle.model.specs.Demands as D
-use Rattle.model.specs.Demands.{InLimits, Ended, Demand1, Witness, NotBefore, First, EndsEarly, EndsAt, FullAt, LargeAt, Demand2, NeverHolds, Demand3, Demands, PackedDemands}
+use Rattle.model.specs.Demands.{InLimits, TooMuch, Ended, Demand1, Witness, NotBefore, First, EndsEarly, EndsAt}
+use Rattle.model.specs.Demands.{FullAt, LargeAt, Demand2, NeverHolds, Demand3, Demands, PackedDemands}
 use Rattle.model.specs.Conditions.{Regular}
 use Rattle.model.proofs.ZoneSets.{lists-of-zones}
 use Rattle.model.proofs.Start.{pick-length}
@@ -59,12 +60,12 @@ demand1 c capacity work = record {
   refuses = λ f e. (answer-refused c capacity (length work) f e, rw e);
 }
 
--- the first n of the seven times handed back are those picked
-pub first-times : (n : ℕ) (d : Matrix) → take n (sevenTimes (pick n d)) ≡ map seconds (pick n d)
-first-times n d = take-at (map seconds (pick n d)) _ n (length-map (pick n d) seconds ∙ pick-length n d)
+-- the first n of n times in an array are those
+pub first-times : (n : ℕ) (xs : List ℤ) → length xs ≡ n → take n (allTimes xs) ≡ map seconds xs
+first-times n xs l = take-at (map seconds xs) _ n (length-map xs seconds ∙ l)
 
 -- the numbers of times
-numbers : (xs : List ℤ) → map (λ x. x .0) (map seconds xs) ≡ xs
+pub numbers : (xs : List ℤ) → map (λ x. x .0) (map seconds xs) ≡ xs
 numbers [] = refl
 numbers (x ∷ xs) = ap (_∷_ x) (numbers xs)
 
@@ -72,97 +73,80 @@ abbrev valueOf : Verdict → ℕ
 valueOf v = numbersOf v .value
 
 -- ---- what a network's outcome says, as an answer
+abbrev Verdict-of : Outcome → Verdict
+Verdict-of o = answered o .verdict
+
+-- reached comes of the first cycle met, with the start picked
+pub record ReachedAt (w : Network) (o : Outcome) (k : ℕ) : Type 0 where
+  pub zone : Matrix
+  pub is-first : First w k
+  pub in-common : firstCommon (w .n) (w .start) (lists w k) ≡ some zone
+  pub is : o ≡ reached k (pick (w .n) zone)
+
+pub reached-only : {w : Network} {capacity : ℕ} {o : Outcome} → Concluded w capacity o → (k : ℕ) → Verdict-of o ≡ verdict.Reached (cycleNumber k)
+    → ReachedAt w o k
+reached-only (reached-at {d} {k = j} f s a) k e = let q : j ≡ k = ap valueOf e in rw (← q) (record { zone = d; is-first = f; in-common = s; is = refl })
+reached-only (concluded.table-full e h) k q = impossible cc
+reached-only (concluded.bound-too-large l e f h) k q = impossible cc
+reached-only (clear-at s u a) k q = impossible cc
+reached-only (never-at h) k q = impossible cc
+
 module _ (w : Network) (capacity : ℕ) (reg : Regular (w .n) (w .times)) (some-row : 1 ≤ w .n) where
   first-once : {j k : ℕ} → First w j → First w k → j ≡ k
-  first-once {j} {k} f g = go (decLt j k) (decLt k j)
-    where
-      go : Dec (j < k) → Dec (k < j) → j ≡ k
-      go (yes h) d = absurd (g .not-before j (f .from-one) h (f .met))
-      go (no h) (yes l) = absurd (f .not-before k (g .from-one) l (g .met))
-      go (no h) (no l) = omega arith
+  first-once {j} {k} f g =
+      let not-less : ¬ (j < k) = λ h. g .not-before j (f .from-one) h (f .met) in
+      let not-more : ¬ (k < j) = λ h. f .not-before k (g .from-one) h (g .met) in
+      omega arith
 
-  abbrev Verdict-of : Outcome → Verdict
-  Verdict-of o = answered o .verdict
+  early : {k : ℕ} → EndsAt w capacity k → TooMuch w capacity k → EndsEarly w capacity
+  early {k} e t = record { at = k; from-one = e .from-one; searched = e .searched; too-much = t; unmet = e .unmet }
 
-  early-full : {k : ℕ} → EndsAt w capacity k → capacity < length (lists w k) → EndsEarly w capacity
-  early-full {k} e h = record { at = k; from-one = e .from-one; searched = e .searched; too-much = inl h; unmet = e .unmet }
-
-  early-large : {k : ℕ} → EndsAt w capacity k → someLarge (lists w k) ≡ true → EndsEarly w capacity
-  early-large {k} e h = record { at = k; from-one = e .from-one; searched = e .searched; too-much = inr h; unmet = e .unmet }
-
-  first : {o : Outcome} → Concluded w capacity o → (k : ℕ) → Verdict-of o ≡ verdict.Reached (cycleNumber k) → First w k
-  first (reached-at {k = j} f s a) k e = let q : j ≡ k = ap valueOf e in rw (← q) f
-  first (concluded.table-full e h) k q = let z : _≡_ {A = ℕ} 0 1 = cc in absurd (omega arith)
-  first (concluded.bound-too-large l e f h) k q = let z : _≡_ {A = ℕ} 0 1 = cc in absurd (omega arith)
-  first (clear-at s u a) k q = let z : _≡_ {A = ℕ} 0 1 = cc in absurd (omega arith)
-  first (never-at h) k q = let z : _≡_ {A = ℕ} 0 1 = cc in absurd (omega arith)
-
-  exactly : {o : Outcome} → Concluded w capacity o → (EndsEarly w capacity → ⊥) → (k : ℕ)
-      → (Verdict-of o ≡ verdict.Reached (cycleNumber k)) ↔ First w k
-  exactly (reached-at {k = j} f s a) d k = (
-    λ e. let q : j ≡ k = ap valueOf e in rw (← q) f,
-    λ g. ap (λ (i : ℕ). verdict.Reached (cycleNumber i)) (first-once f g),
-  )
-  exactly (concluded.table-full e h) d k = absurd (d (early-full e h))
-  exactly (concluded.bound-too-large l e f h) d k = absurd (d (early-large e h))
-  exactly (clear-at s unmet a) d k = (
-    λ e. let z : _≡_ {A = ℕ} 0 1 = cc in absurd (omega arith),
-    λ g. absurd (unmet k (g .from-one) (let h = g .to-horizon in omega arith) (g .met)),
-  )
-  exactly (never-at h) d k = (
-    λ e. let z : _≡_ {A = ℕ} 0 1 = cc in absurd (omega arith),
-    λ g. absurd (beyond w reg (h .again) (h .first) (h .proviso) (h .unmet) k (g .from-one) (g .met)),
-  )
+  only-first : {o : Outcome} → Concluded w capacity o → (EndsEarly w capacity → ⊥) → (k : ℕ) → First w k → Verdict-of o ≡ verdict.Reached (cycleNumber k)
+  only-first (reached-at f s a) d k g = ap (λ (i : ℕ). verdict.Reached (cycleNumber i)) (first-once f g)
+  only-first (concluded.table-full e h) d k g = absurd (d (early e (inl h)))
+  only-first (concluded.bound-too-large l e f h) d k g = absurd (d (early e (inr h)))
+  only-first (clear-at s unmet a) d k g = absurd (unmet k (g .from-one) (let h = g .to-horizon in omega arith) (g .met))
+  only-first (never-at h) d k g = absurd (beyond w reg (h .again) (h .first) (h .proviso) (h .unmet) k (g .from-one) (g .met))
 
   started : {o : Outcome} → Concluded w capacity o → (k : ℕ) → Verdict-of o ≡ verdict.Reached (cycleNumber k)
       → Witness w k (map (λ x. x .0) (take (w .n) (answered o .start)))
-  started (reached-at {d} {k = j} f s a) k e =
-      let q : j ≡ k = ap valueOf e in
-      rw (← q, first-times (w .n) d, numbers (pick (w .n) d)) (met-by w reg j s)
-  started (concluded.table-full e h) k q = let z : _≡_ {A = ℕ} 0 1 = cc in absurd (omega arith)
-  started (concluded.bound-too-large l e f h) k q = let z : _≡_ {A = ℕ} 0 1 = cc in absurd (omega arith)
-  started (clear-at s unmet a) k q = let z : _≡_ {A = ℕ} 0 1 = cc in absurd (omega arith)
-  started (never-at h) k q = let z : _≡_ {A = ℕ} 0 1 = cc in absurd (omega arith)
+  started c k e =
+      let r = reached-only c k e in
+      let xs = pick (w .n) (r .zone) in
+      rw (r .is, first-times (w .n) xs (pick-length (w .n) (r .zone)), numbers xs) (met-by w reg k (r .in-common))
 
   otherwise : {o : Outcome} → Concluded w capacity o → (EndsEarly w capacity → ⊥) → NotBefore w (suc (w .horizon))
       → (Verdict-of o ≡ verdict.Clear (cycleNumber (w .horizon))) ⊎ (Verdict-of o ≡ verdict.Never)
   otherwise (reached-at f s a) d unmet = absurd (unmet _ (f .from-one) (let h = f .to-horizon in omega arith) (f .met))
-  otherwise (concluded.table-full e h) d unmet = absurd (d (early-full e h))
-  otherwise (concluded.bound-too-large l e f h) d unmet = absurd (d (early-large e h))
+  otherwise (concluded.table-full e h) d unmet = absurd (d (early e (inl h)))
+  otherwise (concluded.bound-too-large l e f h) d unmet = absurd (d (early e (inr h)))
   otherwise (clear-at s u a) d unmet = inl refl
   otherwise (never-at h) d unmet = inr refl
 
   never-exactly : {o : Outcome} → Concluded w capacity o → (Verdict-of o ≡ verdict.Never) ↔ NeverHolds w capacity
-  never-exactly (reached-at f s a) = (
-    λ e. let z : _≡_ {A = ℕ} 0 1 = cc in absurd (omega arith),
-    λ h. absurd (beyond w reg (h .again) (h .first) (h .proviso) (h .unmet) _ (f .from-one) (f .met)),
-  )
-  never-exactly (concluded.table-full e f) = (
-    λ e. let z : _≡_ {A = ℕ} 0 1 = cc in absurd (omega arith),
-    λ h. absurd (h .not-early (early-full e f)),
-  )
-  never-exactly (concluded.bound-too-large l e g f) = (
-    λ e. let z : _≡_ {A = ℕ} 0 1 = cc in absurd (omega arith),
-    λ h. absurd (h .not-early (early-large e f)),
-  )
+  never-exactly (reached-at f s a) =
+      (λ e. impossible cc, λ h. absurd (beyond w reg (h .again) (h .first) (h .proviso) (h .unmet) _ (f .from-one) (f .met)))
+  never-exactly (concluded.table-full e f) = (λ e. impossible cc, λ h. absurd (h .not-early (early e (inl f))))
+  never-exactly (concluded.bound-too-large l e g f) = (λ e. impossible cc, λ h. absurd (h .not-early (early e (inr f))))
   never-exactly (clear-at no-short unmet a) = (
-    λ e. let z : _≡_ {A = ℕ} 0 1 = cc in absurd (omega arith),
-    λ h. absurd (let (s, e, same) = repeat-found w reg some-row (h .first) in no-short (record { again = s; first = e; proviso = h .proviso; long-enough = omega (arith, h .long-enough) })),
+    λ e. impossible cc,
+    λ h. let (s, e, same) = repeat-found w reg some-row (h .first) in
+        absurd (no-short (record { again = s; first = e; proviso = h .proviso; long-enough = omega (arith, h .long-enough) })),
   )
   never-exactly (never-at h) = (λ e. h, λ g. refl)
 
   -- two lists cannot both end the search
-  ends-once : {j k : ℕ} → EndsAt w capacity j → EndsAt w capacity k
-      → (capacity < length (lists w j)) ⊎ (someLarge (lists w j) ≡ true) → (capacity < length (lists w k)) ⊎ (someLarge (lists w k) ≡ true) → j ≡ k
-  ends-once {j} {k} a b s t = go (decLt j k) (decLt k j)
+  ends-once : {j k : ℕ} → EndsAt w capacity j → EndsAt w capacity k → TooMuch w capacity j → TooMuch w capacity k → j ≡ k
+  ends-once {j} {k} a b s t = omega (arith, not-less, not-more)
     where
-      against : (i : ℕ) → (length (lists w i) ≤ capacity) × (someLarge (lists w i) ≡ false) → (capacity < length (lists w i)) ⊎ (someLarge (lists w i) ≡ true) → ⊥
-      against i (h, l) u = ⊎-elim (λ v. omega arith) (λ v. let z : _≡_ {A = ℕ} 0 1 = cc in omega arith) u
+      against : (i : ℕ) → (length (lists w i) ≤ capacity) × (someLarge (lists w i) ≡ false) → TooMuch w capacity i → ⊥
+      against i (h, l) u = ⊎-elim (λ v. omega arith) (λ v. impossible cc) u
 
-      go : Dec (j < k) → Dec (k < j) → j ≡ k
-      go (yes h) d = absurd (against j (b .fit-before j (a .from-one) h) s)
-      go (no h) (yes l) = absurd (against k (a .fit-before k (b .from-one) l) t)
-      go (no h) (no l) = omega arith
+      not-less : ¬ (j < k)
+      not-less h = against j (b .fit-before j (a .from-one) h) s
+
+      not-more : ¬ (k < j)
+      not-more h = against k (a .fit-before k (b .from-one) h) t
 
   full-at : {o : Outcome} → Concluded w capacity o → (k : ℕ) → (Verdict-of o ≡ verdict.Refused (fault.TableFull (cycleNumber k))) ↔ FullAt w capacity k
   full-at (concluded.table-full {k = j} e h) k = (
@@ -170,33 +154,37 @@ module _ (w : Network) (capacity : ℕ) (reg : Regular (w .n) (w .times)) (some-
     λ f. ap (λ (i : ℕ). verdict.Refused (fault.TableFull (cycleNumber i))) (ends-once e (f .0) (inl h) (inl (f .1))),
   )
   full-at (concluded.bound-too-large {k = j} l e f h) k = (
-    λ q. let z : _≡_ {A = ℕ} 0 1 = cc in absurd (omega arith),
+    λ q. impossible cc,
     λ g. let p : j ≡ k = ends-once e (g .0) (inr h) (inl (g .1)) in let u = rw (← p) at (g .1) in absurd (omega arith),
   )
-  full-at (reached-at f s a) k = (λ q. let z : _≡_ {A = ℕ} 0 1 = cc in absurd (omega arith), λ g. absurd (a (early-full (g .0) (g .1))))
-  full-at (clear-at s u a) k = (λ q. let z : _≡_ {A = ℕ} 0 1 = cc in absurd (omega arith), λ g. absurd (a (early-full (g .0) (g .1))))
-  full-at (never-at h) k = (λ q. let z : _≡_ {A = ℕ} 0 1 = cc in absurd (omega arith), λ g. absurd (h .not-early (early-full (g .0) (g .1))))
+  full-at (reached-at f s a) k = (λ q. impossible cc, λ g. absurd (a (early (g .0) (inl (g .1)))))
+  full-at (clear-at s u a) k = (λ q. impossible cc, λ g. absurd (a (early (g .0) (inl (g .1)))))
+  full-at (never-at h) k = (λ q. impossible cc, λ g. absurd (h .not-early (early (g .0) (inl (g .1)))))
 
-  large-at : {o : Outcome} → Concluded w capacity o → (k : ℕ) → (Verdict-of o ≡ verdict.Refused (fault.BoundTooLarge (cycleNumber k))) ↔ LargeAt w capacity k
+  large-at : {o : Outcome} → Concluded w capacity o → (k : ℕ)
+      → (Verdict-of o ≡ verdict.Refused (fault.BoundTooLarge (cycleNumber k))) ↔ LargeAt w capacity k
   large-at (concluded.bound-too-large {k = j} l e f h) k = (
     λ q. let p : j ≡ k = ap valueOf q in rw (← p) (e, f, h),
     λ g. ap (λ (i : ℕ). verdict.Refused (fault.BoundTooLarge (cycleNumber i))) (ends-once e (g .0) (inr h) (inr (g .2))),
   )
   large-at (concluded.table-full {k = j} e h) k = (
-    λ q. let z : _≡_ {A = ℕ} 0 1 = cc in absurd (omega arith),
+    λ q. impossible cc,
     λ g. let p : j ≡ k = ends-once e (g .0) (inl h) (inr (g .2)) in let u = rw (← p) at (g .1) in absurd (omega arith),
   )
-  large-at (reached-at f s a) k = (λ q. let z : _≡_ {A = ℕ} 0 1 = cc in absurd (omega arith), λ g. absurd (a (early-large (g .0) (g .2))))
-  large-at (clear-at s u a) k = (λ q. let z : _≡_ {A = ℕ} 0 1 = cc in absurd (omega arith), λ g. absurd (a (early-large (g .0) (g .2))))
-  large-at (never-at h) k = (λ q. let z : _≡_ {A = ℕ} 0 1 = cc in absurd (omega arith), λ g. absurd (h .not-early (early-large (g .0) (g .2))))
+  large-at (reached-at f s a) k = (λ q. impossible cc, λ g. absurd (a (early (g .0) (inr (g .2)))))
+  large-at (clear-at s u a) k = (λ q. impossible cc, λ g. absurd (a (early (g .0) (inr (g .2)))))
+  large-at (never-at h) k = (λ q. impossible cc, λ g. absurd (h .not-early (early (g .0) (inr (g .2)))))
 
 -- ---- for a case within the limits, whose table is regular
 module _ (c : Case) (capacity size : ℕ) (limits : InLimits c capacity size) where
+  abbrev w : Network
+  w = network c
+
   regular-case : Regular (network c .n) (network c .times)
   regular-case = limits-of c capacity size limits .table .regular
 
   some-departures : 1 ≤ network c .n
-  some-departures = limits-of c capacity size limits .table .some-departures
+  some-departures = limits-of c capacity size limits .table .departures .some
 
   concludes : Concluded (network c) capacity (outcome (network c) capacity)
   concludes = conclusion (network c) capacity regular-case some-departures
@@ -206,25 +194,25 @@ module _ (c : Case) (capacity size : ℕ) (limits : InLimits c capacity size) wh
   not-too-large k e = go concludes e
     where
       go : {o : Outcome} → Concluded (network c) capacity o → o ≡ boundTooLarge k → ⊥
-      go (reached-at f s a) e = let z : _≡_ {A = ℕ} 0 1 = cc in omega arith
-      go (concluded.table-full g f) e = let z : _≡_ {A = ℕ} 0 1 = cc in omega arith
+      go (reached-at f s a) e = impossible cc
+      go (concluded.table-full g f) e = impossible cc
       go (concluded.bound-too-large {k = j} l g f h) e =
           let limit = limits-of c capacity size limits in
-          let none = none-large (network c) (limit .table .times-small) (limit .target-small) (limit .table .few-departures) j (omega arith) in
-          let z : _≡_ {A = ℕ} 0 1 = cc in omega arith
-      go (clear-at s u a) e = let z : _≡_ {A = ℕ} 0 1 = cc in omega arith
-      go (never-at h) e = let z : _≡_ {A = ℕ} 0 1 = cc in omega arith
+          let none = none-large (network c) (limit .table .times-small) (limit .target-small) (limit .table .departures .few) j (omega arith) in
+          impossible cc
+      go (clear-at s u a) e = impossible cc
+      go (never-at h) e = impossible cc
 
   pub demand2 : Demand2 c capacity (answer c capacity size)
   unfolding network
-  demand2 = record {
-    first = rw (answer-in c capacity size limits) (first (network c) capacity regular-case some-departures concludes);
-    exactly = rw (answer-in c capacity size limits) (exactly (network c) capacity regular-case some-departures concludes);
-    start = rw (answer-in c capacity size limits) (started (network c) capacity regular-case some-departures concludes);
-    otherwise = rw (answer-in c capacity size limits) (otherwise (network c) capacity regular-case some-departures concludes);
-    full = rw (answer-in c capacity size limits) (full-at (network c) capacity regular-case some-departures concludes);
-    large = rw (answer-in c capacity size limits) (large-at (network c) capacity regular-case some-departures concludes);
-  }
+  demand2 = rw (answer-in c capacity size limits) (record {
+    first = λ k e. reached-only concludes k e .is-first;
+    exactly = λ d k. (λ e. reached-only concludes k e .is-first, only-first w capacity regular-case some-departures concludes d k);
+    start = started w capacity regular-case some-departures concludes;
+    otherwise = otherwise w capacity regular-case some-departures concludes;
+    full = full-at w capacity regular-case some-departures concludes;
+    large = large-at w capacity regular-case some-departures concludes;
+  })
 
   never-is : (answer c capacity size .verdict ≡ verdict.Never) ↔ NeverHolds (network c) capacity
   never-is = rw (answer-in c capacity size limits) (never-exactly (network c) capacity regular-case some-departures concludes)

@@ -1,29 +1,25 @@
 -- The demands leave one verdict and one workspace: what meets them has those of the definition, whatever made it.
 use Prim.Native.Nat.{ℕ}
-use native.Mathlib.Omega.{arith}
-use mathlib.Core.Path.{_≡_, refl, sym, ap, _∙_}
+use mathlib.Core.Path.{_≡_, refl}
 use mathlib.Core.Logic.{⊎-elim}
 use mathlib.Core.List.{List}
 use mathlib.Core.Option.{Option, none, some}
 use lib.IntN.{ℤ}
 use lib.ListN.{length}
+use Rattle.ints.proofs.Integers.{impossible}
 use Rattle.model.specs.declared.Case.{Case}
 use Rattle.model.specs.declared.Fault.{Fault}
 use Rattle.model.specs.declared.Answer.{Answer}
-use Rattle.model.specs.declared.Verdict.{Verdict}
 use Rattle.model.specs.declared.Verdict.the-variants as verdict
 use Rattle.model.specs.Search.{Outcome, outcome}
 use Rattle.model.specs.Faults.{network, callFault}
 use Rattle.model.specs.Packed.{Reading, got, refused, parse}
-use Rattle.model.specs.Answers.{refusal, answered, answer, workspaceAfter, answerPacked, workspaceAfterPacked}
+use Rattle.model.specs.Answers.{answered, answer, workspaceAfter, answerPacked, workspaceAfterPacked}
 use Rattle.model.specs.Demands.{InLimits, NeverHolds, Demands, PackedDemands}
 use Rattle.model.proofs.Limits.{limits-of}
 use Rattle.model.proofs.Concluded as concluded
 use Rattle.model.proofs.Concluded.{Concluded, reached-at, clear-at, never-at, conclusion}
 use Rattle.model.proofs.DemandsHold.{answer-in, answer-refused, demand3}
-
-abbrev verdict-of : Answer → Verdict
-verdict-of a = a .verdict
 
 -- the verdict and the workspace are those of an answer
 abbrev pub Same : Answer → List ℤ → Answer → List ℤ → Type 0
@@ -33,27 +29,19 @@ module _ (c : Case) (capacity : ℕ) (work : List ℤ) (r : Answer) (after : Lis
   abbrev size : ℕ
   size = length work
 
-  abbrev Defined : Outcome → Type 0
-  Defined o = r .verdict ≡ answered o .verdict
-
-  -- the verdict of the definition, for a case within the limits
-  defined : InLimits c capacity size → answered (outcome (network c) capacity) .verdict ≡ answer c capacity size .verdict
-  defined l = ap verdict-of (sym (answer-in c capacity size l))
-
   -- clear is not never
-  not-both : {o : Outcome} → (l : InLimits c capacity size) → outcome (network c) capacity ≡ o
-      → NeverHolds (network c) capacity → answered o .verdict ≡ verdict.Never
-  not-both l e h = ap (λ (p : Outcome). answered p .verdict) (sym e) ∙ defined l ∙ demand3 c capacity size l .exactly .1 h
+  not-both : {o : Outcome} → (l : InLimits c capacity size) → outcome (network c) capacity ≡ o → NeverHolds (network c) capacity
+      → answered o .verdict ≡ verdict.Never
+  not-both l e h = rw (← e) (rw (answer-in c capacity size l) at (demand3 c capacity size l .exactly .1 h))
 
-  within : (l : InLimits c capacity size) {o : Outcome} → outcome (network c) capacity ≡ o → Concluded (network c) capacity o → Defined o
+  within : (l : InLimits c capacity size) {o : Outcome} → outcome (network c) capacity ≡ o → Concluded (network c) capacity o
+      → r .verdict ≡ answered o .verdict
   unfolding network
   within l e (reached-at {k} f s a) = d .two l .exactly a k .1 f
   within l e (concluded.table-full {k} f h) = d .two l .full k .1 (f, h)
   within l e (concluded.bound-too-large {k} u f g h) = d .two l .large k .1 (f, g, h)
   within l e (clear-at s unmet a) =
-      ⊎-elim (λ t. t)
-      (λ t. let q = not-both l e (d .three l .exactly .0 t) in let z : _≡_ {A = ℕ} 0 1 = cc in absurd (omega arith))
-      (d .two l .otherwise a unmet)
+      ⊎-elim (λ t. t) (λ t. let q = not-both l e (d .three l .exactly .0 t) in impossible cc) (d .two l .otherwise a unmet)
   within l e (never-at h) = d .three l .exactly .1 h
 
   pub determined : Same r after (answer c capacity size) (workspaceAfter c capacity work)
@@ -61,10 +49,11 @@ module _ (c : Case) (capacity : ℕ) (work : List ℤ) (r : Answer) (after : Lis
   determined = go (callFault c capacity size) refl
     where
       go : (o : Option Fault) → callFault c capacity size ≡ o → Same r after (answer c capacity size) (workspaceAfter c capacity work)
-      go (some f) e = let (is, left) = d .one .refuses f e in (ap verdict-of (is ∙ sym (answer-refused c capacity size f e)), rw e left)
+      go (some f) e = let (is, left) = d .one .refuses f e in (rw (is, answer-refused c capacity size f e), rw e left)
       go none e =
           let l = limits-of c capacity size e in
-          (within e refl (conclusion (network c) capacity (l .table .regular) (l .table .some-departures)) ∙ defined e, rw e (d .one .ends e .1))
+          let found = within e refl (conclusion (network c) capacity (l .table .regular) (l .table .departures .some)) in
+          (rw (answer-in c capacity size e) found, rw e (d .one .ends e .1))
 
 -- the same of a packed case
 pub packed-determined : (s : List ℕ) (capacity : ℕ) (work : List ℤ) (r : Answer) (after : List ℤ) → PackedDemands s capacity work r after
@@ -73,11 +62,5 @@ unfolding answerPacked workspaceAfterPacked
 packed-determined s capacity work r after d = go (parse s) refl
   where
     go : (o : Reading Case) → parse s ≡ o → Same r after (answerPacked s capacity (length work)) (workspaceAfterPacked s capacity work)
-    go (refused f) e =
-        let (is, left) = d .refuses f e in
-        let same : answerPacked s capacity (length work) ≡ refusal f = rw (e, answerPacked) in
-        (ap verdict-of (is ∙ sym same), rw (e, workspaceAfterPacked) left)
-    go (got c q) e =
-        let (is, left) = determined c capacity work r after (d .reads c q e .1) in
-        let same : answerPacked s capacity (length work) ≡ answer c capacity (length work) = rw (e, answerPacked) in
-        (is ∙ ap verdict-of (sym same), rw (e, workspaceAfterPacked) left)
+    go (refused f) e = let (is, left) = d .refuses f e in rw (e, is, answerPacked, workspaceAfterPacked) (refl, left)
+    go (got c q) e = rw (e, answerPacked, workspaceAfterPacked) (determined c capacity work r after (d .reads c q e .1))

@@ -7,29 +7,29 @@ use native.Mathlib.Decide.{ℕ-discrete, decLe}
 use mathlib.Core.Path.{_≡_}
 
 -- f 0 + .. + f (n - 1)
-sum : (ℕ → ℕ) → ℕ → ℕ
-sum f zero = 0
-sum f (suc n) = sum f n + f n
+total : (ℕ → ℕ) → ℕ → ℕ
+total f zero = 0
+total f (suc n) = total f n + f n
 
 -- n equal terms
-sum-constant : (c n : ℕ) → sum (λ t. c) n ≡ n * c
-unfolding sum
-sum-constant c zero = omega arith
-sum-constant c (suc n) = omega (arith, sum-constant c n, suc-mul n c)
+total-constant : (c n : ℕ) → total (λ t. c) n ≡ n * c
+unfolding total
+total-constant c zero = omega arith
+total-constant c (suc n) = omega (arith, total-constant c n, suc-mul n c)
 
 -- if no term falls, the sum does not
-sum-mono : (f g : ℕ → ℕ) (n : ℕ) → ((t : ℕ) → t < n → f t ≤ g t) → sum f n ≤ sum g n
-unfolding sum
-sum-mono f g zero h = omega arith
-sum-mono f g (suc n) h = omega (arith, h n (omega arith), sum-mono f g n (λ t l. h t (omega arith)))
+total-mono : (f g : ℕ → ℕ) (n : ℕ) → ((t : ℕ) → t < n → f t ≤ g t) → total f n ≤ total g n
+unfolding total
+total-mono f g zero h = omega arith
+total-mono f g (suc n) h = omega (arith, h n (omega arith), total-mono f g n (λ t l. h t (omega arith)))
 
 -- and it rises by at least what any one term does
-sum-rises : (f g : ℕ → ℕ) (n : ℕ) → ((t : ℕ) → t < n → f t ≤ g t) → (t : ℕ) → t < n → sum f n + g t ≤ sum g n + f t
-unfolding sum
-sum-rises f g zero h t l = absurd (omega arith)
-sum-rises f g (suc n) h t l = elim (ℕ-discrete t n) [
-  | yes e ↦ rw e (omega (arith, sum-mono f g n (λ s k. h s (omega arith))))
-  | no ne ↦ omega (arith, sum-rises f g n (λ s k. h s (omega arith)) t (omega arith), h n (omega arith))
+total-rises : (f g : ℕ → ℕ) (n : ℕ) → ((t : ℕ) → t < n → f t ≤ g t) → (t : ℕ) → t < n → total f n + g t ≤ total g n + f t
+unfolding total
+total-rises f g zero h t l = absurd (omega arith)
+total-rises f g (suc n) h t l = elim (ℕ-discrete t n) [
+  | yes e ↦ rw e (omega (arith, total-mono f g n (λ s k. h s (omega arith))))
+  | no ne ↦ omega (arith, total-rises f g n (λ s k. h s (omega arith)) t (omega arith), h n (omega arith))
 ]
 
 -- a sequence that rises by less than m in m steps has a step at which it does not rise
@@ -48,26 +48,26 @@ module _ (m B : ℕ) (y : ℕ → ℕ) where
 
   -- how many are at most r * B
   count : ℕ → ℕ
-  count r = sum (atMost r) (suc m)
+  count r = total (atMost r) (suc m)
 
   -- where the count does not rise, none lies in (r * B, r * B + B]
   none-between : (r : ℕ) → count (suc r) ≤ count r → (t : ℕ) → t < suc m → r * B < y t → r * B + B < y t
   unfolding count
   none-between r e t l h =
       let next : suc r * B ≡ r * B + B = suc-mul r B in
-      omega (arith, sum-rises (atMost r) (atMost (suc r)) (suc m) (λ s k. omega arith) t l)
+      omega (arith, total-rises (atMost r) (atMost (suc r)) (suc m) (λ s k. omega arith) t l)
 
   -- the count is at least 1 at 0, since y p is counted, and at most m at m, since y q is not
   count-rises-less : (p q : ℕ) → p < suc m → q < suc m → y p ≡ 0 → m * B < y q → count m < count 0 + m
   unfolding count
   count-rises-less p q hp hq least large =
-      let first = sum-rises (λ t. 0) (atMost 0) (suc m) (λ t l. omega arith) p hp in
-      let last = sum-rises (atMost m) (λ t. 1) (suc m) (λ t l. omega arith) q hq in
-      omega (arith, sum-constant 0 (suc m), sum-constant 1 (suc m))
+      let first = total-rises (λ t. 0) (atMost 0) (suc m) (λ t l. omega arith) p hp in
+      let last = total-rises (atMost m) (λ t. 1) (suc m) (λ t l. omega arith) q hq in
+      omega (arith, total-constant 0 (suc m), total-constant 1 (suc m))
 
   -- none lies in (c, c + B], and y q is greater
-  pub gap : (p q : ℕ) → p < suc m → q < suc m → y p ≡ 0 → m * B < y q
+  pub interval : (p q : ℕ) → p < suc m → q < suc m → y p ≡ 0 → m * B < y q
       → (c : ℕ) × c + B < y q × ((t : ℕ) → t < suc m → c < y t → c + B < y t)
-  gap p q hp hq least large =
+  interval p q hp hq least large =
       let (r, l, e) = no-rise count m (count-rises-less p q hp hq least large) in
       (r * B, omega (arith, mul-le-mul-right {m = suc r} {n = m} B l, suc-mul r B), none-between r e)

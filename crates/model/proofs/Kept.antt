@@ -1,11 +1,10 @@
--- A list of kept zones: every set that was put to it and is not empty is there, and no two of its zones are equal.
-use Prim.Native.Nat.{ℕ}
-use native.Mathlib.Omega.{arith}
+-- A list of kept zones: every set that was put to it and is not empty is there, once.
 use mathlib.Core.Path.{_≡_, refl, sym}
 use mathlib.Core.Logic.{_⊎_, inl, inr, ⊎-elim}
 use mathlib.Core.Bool.{Bool, true, false, cond, _||_}
 use mathlib.Core.List.{List, [], _∷_, _++_, foldl}
 use mathlib.Core.Option.{Option, none, some}
+use Rattle.ints.proofs.Integers.{impossible}
 use Rattle.model.specs.Lists.{anyOf, Every, done, both, Some, here, there}
 use Rattle.model.specs.Matrix.{Matrix, sameMatrix}
 use Rattle.model.specs.Search.{keep}
@@ -17,7 +16,7 @@ use Rattle.model.proofs.Zones.{Is}
 module _ {X : Type 0} (p : X → Bool) where
   pub anyOf-true : (xs : List X) → anyOf p xs ≡ true → Some (λ x. p x ≡ true) xs
   unfolding anyOf
-  anyOf-true [] e = absurd (let z : _≡_ {A = ℕ} 0 1 = cc in omega arith)
+  anyOf-true [] e = impossible cc
   anyOf-true (x ∷ xs) e = go (p x) refl e (anyOf-true xs)
     where
       go : (t : Bool) → p x ≡ t → (t || anyOf p xs) ≡ true → (anyOf p xs ≡ true → Some (λ y. p y ≡ true) xs) → Some (λ y. p y ≡ true) (x ∷ xs)
@@ -30,7 +29,7 @@ module _ {X : Type 0} (p : X → Bool) where
   anyOf-false {xs = x ∷ xs} e = go (p x) refl e (anyOf-false {xs = xs})
     where
       go : (t : Bool) → p x ≡ t → (t || anyOf p xs) ≡ false → (anyOf p xs ≡ false → Every (λ y. p y ≡ false) xs) → Every (λ y. p y ≡ false) (x ∷ xs)
-      go true h e rest = absurd (let z : _≡_ {A = ℕ} 0 1 = cc in omega arith)
+      go true h e rest = impossible cc
       go false h e rest = both h (rest e)
 
   pub not-any : {xs : List X} → Every (λ x. p x ≡ false) xs → anyOf p xs ≡ false
@@ -38,84 +37,66 @@ module _ {X : Type 0} (p : X → Bool) where
   not-any done = refl
   not-any (both h hs) = rw h (not-any hs)
 
--- ---- no two elements are equal
-pub data Distinct {X : Type 0} : List X → Type 0 where
-  alone : Distinct []
-  more : {x : X} {xs : List X} → Every (λ y. x ≡ y → ⊥) xs → Distinct xs → Distinct (x ∷ xs)
-
-pub distinct-snoc : {X : Type 0} {xs : List X} (z : X) → Every (λ y. y ≡ z → ⊥) xs → Distinct xs → Distinct (xs ++ (z ∷ []))
-distinct-snoc z done alone = more done alone
-distinct-snoc z (both h hs) (more d ds) = more (every-append d (both h done)) (distinct-snoc z hs ds)
-
 -- ---- one set put to the list
-pub data Keeps (kept : List Matrix) : Option Matrix → List Matrix → Type 0 where
-  empty : Keeps kept none kept
-  there-already : {z : Matrix} → Some (λ y. y ≡ z) kept → Keeps kept (some z) kept
-  new : {z : Matrix} → Every (λ y. y ≡ z → ⊥) kept → Keeps kept (some z) (kept ++ (z ∷ []))
+pub data Put (kept : List Matrix) : Option Matrix → List Matrix → Type 0 where
+  empty : Put kept none kept
+  there-already : {z : Matrix} → Some (λ y. y ≡ z) kept → Put kept (some z) kept
+  new : {z : Matrix} → Every (λ y. y ≡ z → ⊥) kept → Put kept (some z) (kept ++ (z ∷ []))
 
 other : (z y : Matrix) → sameMatrix z y ≡ false → y ≡ z → ⊥
 other z y h e =
     let s : sameMatrix z y ≡ true = rw e (sameMatrix-refl z) in
-    let w : _≡_ {A = ℕ} 0 1 = cc in
-    omega arith
+    impossible cc
 
-pub keep-is : (kept : List Matrix) (o : Option Matrix) → Keeps kept o (keep kept o)
+pub keep-is : (kept : List Matrix) (o : Option Matrix) → Put kept o (keep kept o)
 unfolding keep
 keep-is kept none = empty
 keep-is kept (some z) = go (anyOf (sameMatrix z) kept) refl
   where
-    go : (t : Bool) → anyOf (sameMatrix z) kept ≡ t → Keeps kept (some z) (cond t kept (kept ++ (z ∷ [])))
+    go : (t : Bool) → anyOf (sameMatrix z) kept ≡ t → Put kept (some z) (cond t kept (kept ++ (z ∷ [])))
     go true e = there-already (some-map (λ y h. sym (sameMatrix-true z y h)) (anyOf-true (sameMatrix z) kept e))
     go false e = new (every-map (other z) (anyOf-false (sameMatrix z) e))
 
 module _ {P : Matrix → Type 0} where
-  keeps-some : {kept kept′ : List Matrix} {o : Option Matrix} → Keeps kept o kept′ → Some P kept′ → Some P kept ⊎ Is P o
-  keeps-some empty p = inl p
-  keeps-some (there-already q) p = inl p
-  keeps-some {kept} (new {z} q) p = ⊎-elim inl (λ r. inr (last r)) (some-split kept (z ∷ []) p)
+  put-some : {kept kept′ : List Matrix} {o : Option Matrix} → Put kept o kept′ → Some P kept′ → Some P kept ⊎ Is P o
+  put-some empty p = inl p
+  put-some (there-already q) p = inl p
+  put-some {kept} (new {z} q) p = ⊎-elim inl (λ r. inr (last r)) (some-split kept (z ∷ []) p)
     where
       last : Some P (z ∷ []) → P z
       last (here h) = h
       last (there r) = elim r [ ]
 
-  keeps-old : {kept kept′ : List Matrix} {o : Option Matrix} → Keeps kept o kept′ → Some P kept → Some P kept′
-  keeps-old empty p = p
-  keeps-old (there-already q) p = p
-  keeps-old (new {z} q) p = some-left (z ∷ []) p
+  put-old : {kept kept′ : List Matrix} {o : Option Matrix} → Put kept o kept′ → Some P kept → Some P kept′
+  put-old empty p = p
+  put-old (there-already q) p = p
+  put-old (new {z} q) p = some-left (z ∷ []) p
 
-  keeps-new : {kept kept′ : List Matrix} {o : Option Matrix} → Keeps kept o kept′ → Is P o → Some P kept′
-  keeps-new empty p = absurd p
-  keeps-new (there-already q) p = some-map (λ y e. rw e p) q
-  keeps-new {kept} (new q) p = some-right kept (here p)
+  put-new : {kept kept′ : List Matrix} {o : Option Matrix} → Put kept o kept′ → Is P o → Some P kept′
+  put-new empty p = absurd p
+  put-new (there-already q) p = some-map (λ y e. rw e p) q
+  put-new {kept} (new q) p = some-right kept (here p)
 
   -- ---- all that was put to the list is there, and nothing else
   pub kept-of : (kept : List Matrix) (os : List (Option Matrix)) → Some P (foldl keep kept os) → Some P kept ⊎ Some (Is P) os
   kept-of kept [] p = inl p
-  kept-of kept (o ∷ os) p = ⊎-elim (λ q. ⊎-elim inl (λ h. inr (here h)) (keeps-some (keep-is kept o) q)) (λ q. inr (there q)) (kept-of (keep kept o) os p)
+  kept-of kept (o ∷ os) p = ⊎-elim (λ q. ⊎-elim inl (λ h. inr (here h)) (put-some (keep-is kept o) q)) (λ q. inr (there q)) (kept-of (keep kept o) os p)
 
   pub kept-old : (kept : List Matrix) (os : List (Option Matrix)) → Some P kept → Some P (foldl keep kept os)
   kept-old kept [] p = p
-  kept-old kept (o ∷ os) p = kept-old (keep kept o) os (keeps-old (keep-is kept o) p)
+  kept-old kept (o ∷ os) p = kept-old (keep kept o) os (put-old (keep-is kept o) p)
 
   pub of-kept : (kept : List Matrix) {os : List (Option Matrix)} → Some (Is P) os → Some P (foldl keep kept os)
-  of-kept kept (here {x = o} {xs = os} h) = kept-old (keep kept o) os (keeps-new (keep-is kept o) h)
+  of-kept kept (here {x = o} {xs = os} h) = kept-old (keep kept o) os (put-new (keep-is kept o) h)
   of-kept kept (there {x = o} q) = of-kept (keep kept o) q
 
   -- what holds of every set put to it holds of every kept zone
-  keeps-every : {kept kept′ : List Matrix} {o : Option Matrix} → Keeps kept o kept′ → Every P kept → ((z : Matrix) → o ≡ some z → P z) → Every P kept′
-  keeps-every empty ps h = ps
-  keeps-every (there-already q) ps h = ps
-  keeps-every (new {z} q) ps h = every-append ps (both (h z refl) done)
+  put-every : {kept kept′ : List Matrix} {o : Option Matrix} → Put kept o kept′ → Every P kept → ((z : Matrix) → o ≡ some z → P z) → Every P kept′
+  put-every empty ps h = ps
+  put-every (there-already q) ps h = ps
+  put-every (new {z} q) ps h = every-append ps (both (h z refl) done)
 
-  pub kept-every : {kept : List Matrix} {os : List (Option Matrix)} → Every P kept → Every (λ o. (z : Matrix) → o ≡ some z → P z) os → Every P (foldl keep kept os)
+  pub kept-every : {kept : List Matrix} {os : List (Option Matrix)} → Every P kept → Every (λ o. (z : Matrix) → o ≡ some z → P z) os
+      → Every P (foldl keep kept os)
   kept-every ps done = ps
-  kept-every {kept} ps (both {x = o} h hs) = kept-every (keeps-every (keep-is kept o) ps h) hs
-
-keeps-distinct : {kept kept′ : List Matrix} {o : Option Matrix} → Keeps kept o kept′ → Distinct kept → Distinct kept′
-keeps-distinct empty ds = ds
-keeps-distinct (there-already q) ds = ds
-keeps-distinct (new {z} q) ds = distinct-snoc z q ds
-
-pub kept-distinct : (kept : List Matrix) (os : List (Option Matrix)) → Distinct kept → Distinct (foldl keep kept os)
-kept-distinct kept [] ds = ds
-kept-distinct kept (o ∷ os) ds = kept-distinct (keep kept o) os (keeps-distinct (keep-is kept o) ds)
+  kept-every {kept} ps (both {x = o} h hs) = kept-every (put-every (keep-is kept o) ps h) hs

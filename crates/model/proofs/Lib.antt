@@ -12,6 +12,8 @@ pub mod Rows
 pub mod Tabulated
 pub mod Stored
 pub mod MaxPlus
+pub mod Places
+pub mod Sums
 pub mod Selections
 pub mod Preimage
 pub mod Images
@@ -28,6 +30,7 @@ pub mod Gap
 pub mod Size
 pub mod Searched
 pub mod Sizes
+pub mod Fitted
 pub mod Beyond
 pub mod Concluded
 pub mod Limits

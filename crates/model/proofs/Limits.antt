@@ -11,10 +11,12 @@ use mathlib.Core.Bool.{Bool, true, false, not, _&&_, _||_, cond}
 use lib.IntN.{ℤ, natAbs}
 use lib.Arith.{digits-lt}
 use lib.Dec.{ltb, eqb}
-use lib.ListN.{length, take, drop, getD, length-map, length-take, List·getD-map}
-use lib.Seq.{getD-take, getD-drop, drop-drop, take-add}
+use lib.ListN.{length, take, drop, getD, length-map, length-take}
+use lib.Seq.{getD-drop, drop-drop, take-add}
 use borrow.Author.Tests.{ltb-false, le-ltb, not-false}
 use Rattle.ints.specs.declared.Seconds.{Seconds}
+use Rattle.ints.proofs.Integers.{impossible}
+use Rattle.model.specs.Sizes.{mostCycles, mostZones, timeLimit, startLimit, tableSize, workspaceSize}
 use Rattle.model.specs.declared.Slot.{Slot}
 use Rattle.model.specs.declared.Case.{Case}
 use Rattle.model.specs.declared.Fault.{Fault}
@@ -22,9 +24,11 @@ use Rattle.model.specs.Lists.{anyOf, when, orElse, Every, done, both}
 use Rattle.model.specs.Bound as B
 use Rattle.model.specs.Bound.{Bound, most}
 use Rattle.model.specs.Pattern.{pairPlace, pairBound}
-use Rattle.model.specs.Network.{Time, blank, secs, Network, time, isTime, regular}
-use Rattle.model.specs.Faults.{timeOf, boundOf, nothing, present, network, beyond, entryFault, rowsFault, outside, tableFault, patternsFault, caseFault, roomFault, callFault, runFault}
-use Rattle.model.specs.Conditions.{Regular, InLimit, TableLimits}
+use Rattle.model.specs.Network.{Time, blank, secs, time, isTime, regular}
+use Rattle.model.specs.Faults.{timeOf, tableOf, boundOf, nothing, present, network, beyond, entryFault, rowsFault}
+use Rattle.model.specs.Faults.{outside, tableFault, patternsFault, caseFault, roomFault, callFault, runFault}
+use Rattle.model.specs.Conditions.{Departures, Regular, Small, free, sized, InLimit, TableLimits, Limits}
+use Rattle.model.proofs.Places.{getD-times}
 use Rattle.model.proofs.Listed.{every-append, every-map, of-both, at-getD, map-every, of-map-every}
 
 -- ---- no fault. Each law holds both ways
@@ -68,18 +72,18 @@ entryFault-none limit f p (e ∷ es) = simp (orElse-none, when-none, entryFault-
 -- r rows of n entries each: every time is in its limit, and each row holds a time
 pub data RowsInLimit (n : ℕ) : ℕ → List Slot → Type 0 where
   no-row : {es : List Slot} → RowsInLimit n zero es
-  row : {r : ℕ} {es : List Slot} → Every (InLimit 86400) (take n es) → regular (map timeOf (take n es)) ≡ true → RowsInLimit n r (drop n es)
+  row : {r : ℕ} {es : List Slot} → Every (InLimit timeLimit) (take n es) → regular (map timeOf (take n es)) ≡ true → RowsInLimit n r (drop n es)
       → RowsInLimit n (suc r) es
 
 module _ {n : ℕ} where
   -- the first row, and the others
   of-row : {r : ℕ} {es : List Slot} → RowsInLimit n (suc r) es
-      → Every (InLimit 86400) (take n es) × ((regular (map timeOf (take n es)) ≡ true) × RowsInLimit n r (drop n es))
+      → Every (InLimit timeLimit) (take n es) × ((regular (map timeOf (take n es)) ≡ true) × RowsInLimit n r (drop n es))
   of-row (row h t rest) = (h, (t, rest))
 
   -- row k of them, counted from 0
   pub row-at : {r : ℕ} {es : List Slot} → RowsInLimit n r es → (k : ℕ) → k < r
-      → Every (InLimit 86400) (take n (drop (k * n) es)) × (regular (map timeOf (take n (drop (k * n) es))) ≡ true)
+      → Every (InLimit timeLimit) (take n (drop (k * n) es)) × (regular (map timeOf (take n (drop (k * n) es))) ≡ true)
   row-at no-row k l = absurd (omega arith)
   row-at (row h t rest) zero l = rw (zero-mul n) (h, t)
   row-at (row {es} h t rest) (suc k) l =
@@ -87,7 +91,7 @@ module _ {n : ℕ} where
       rw (e, ← (drop-drop (k * n) n es)) (row-at rest k (omega arith))
 
   -- all their entries
-  pub rows-in : {r : ℕ} {es : List Slot} → RowsInLimit n r es → Every (InLimit 86400) (take (r * n) es)
+  pub rows-in : {r : ℕ} {es : List Slot} → RowsInLimit n r es → Every (InLimit timeLimit) (take (r * n) es)
   rows-in no-row = rw (zero-mul n) done
   rows-in (row {r} {es} h t rest) =
       let e : suc r * n ≡ n + r * n = omega arith in
@@ -123,32 +127,27 @@ module _ {limit : ℕ} {es : List Slot} (h : Every (InLimit limit) es) where
   unfolding timeOf
   time-small p v =
       entry-at (λ t. t ≡ secs v → natAbs v ≤ limit) secs blank
-      (λ e. let z : _≡_ {A = ℕ} 0 1 = cc in omega arith) (λ z l e. let d : z ≡ v = cc in rw d at l) h p
+      (λ e. impossible cc) (λ z l e. let d : z ≡ v = cc in rw d at l) h p
 
   -- so is a bound of the pattern that they state
-  pub bound-small : (n i j : ℕ) (b : ℤ) → pairBound n (map boundOf es) i j ≡ most b → natAbs b ≤ limit
+  pub bound-small : (n i j : ℕ) → Small limit (pairBound n (map boundOf es) i j)
   unfolding boundOf pairBound
-  bound-small n i j b =
-      let P : Bound → Type 0 = λ t. t ≡ most b → natAbs b ≤ limit in
-      let absent : P B.Bound.none = λ e. let z : _≡_ {A = ℕ} 0 1 = cc in omega arith in
-      let at = entry-at P most B.Bound.none absent (λ z l e. let d : z ≡ b = cc in rw d at l) h (pairPlace n i j) in
-      elim (eqb i j) as (λ t. P (cond t B.Bound.none (getD (map boundOf es) (pairPlace n i j) B.Bound.none))) [ true ↦ absent | false ↦ at ]
+  bound-small n i j =
+      elim (eqb i j) as (λ t. Small limit (cond t B.Bound.none (getD (map boundOf es) (pairPlace n i j) B.Bound.none))) [
+        | true ↦ free
+        | false ↦ entry-at (Small limit) most B.Bound.none free (λ z. sized) h (pairPlace n i j)
+      ]
 
 -- ---- rows that hold a time
 -- the place of a time
 time-at : (ts : List Time) → regular ts ≡ true → (j : ℕ) × (j < length ts) × (v : ℤ) × (getD ts j blank ≡ secs v)
 unfolding regular anyOf isTime
-time-at [] h = let z : _≡_ {A = ℕ} 0 1 = cc in absurd (omega arith)
+time-at [] h = impossible cc
 time-at (blank ∷ ts) h = let (j, l, v, e) = time-at ts h in (suc j, omega arith, v, e)
 time-at (secs v ∷ ts) h = (0, omega arith, v, refl)
 
--- one of the first m entries, as a time
-pub getD-times : (m : ℕ) (es : List Slot) (p : ℕ) → p < m → getD (map timeOf (take m es)) p blank ≡ timeOf (getD es p nothing)
-unfolding timeOf
-getD-times m es p h = List·getD-map timeOf (take m es) p nothing ∙ ap timeOf (getD-take m es p nothing h)
-
 -- n such rows are a regular table
-pub rows-regular : {n : ℕ} {es : List Slot} → RowsInLimit n n es → Regular n (map timeOf (take (n * n) es))
+pub rows-regular : {n : ℕ} {es : List Slot} → RowsInLimit n n es → Regular n (tableOf n es)
 unfolding time
 rows-regular {n} {es} r i l u =
     let k = i - 1 in
@@ -157,31 +156,24 @@ rows-regular {n} {es} r i l u =
     let in-row : j < n = omega (arith, length-map (take n at) timeOf, length-take n at) in
     let in-rows : k < n = omega arith in
     let same : suc j - 1 ≡ j = omega arith in
-    let is = getD-times (n * n) es (k * n + j) (digits-lt in-rows in-row) ∙ ap timeOf (sym (getD-drop (k * n) es j nothing)) ∙ sym (getD-times n at j in-row) ∙ e in
+    let is = getD-times (tableSize n) es (k * n + j) (digits-lt in-rows in-row) ∙ ap timeOf (sym (getD-drop (k * n) es j nothing))
+    ∙ sym (getD-times n at j in-row) ∙ e in
     (suc j, record { from-one = omega arith; to-n = omega arith; value = v; is = rw same is })
-
--- of a call's network
-pub record Limits (w : Network) : Type 0 where
-  pub table : TableLimits (w .n) (w .times)
-  pub some-cycles : 1 ≤ w .horizon
-  pub few-cycles : w .horizon ≤ 64
-  pub start-small : (i j : ℕ) (b : ℤ) → pairBound (w .n) (w .start) i j ≡ most b → natAbs b ≤ 1000000
-  pub target-small : (i j : ℕ) (b : ℤ) → pairBound (w .n) (w .target) i j ≡ most b → natAbs b ≤ 1000000
 
 -- of start times
 abbrev pub StartsSmall : List Seconds → Type 0
-StartsSmall xs = Every (λ x. natAbs (x .0) ≤ 1000000000000) xs
+StartsSmall xs = Every (λ x. natAbs (x .0) ≤ startLimit) xs
 
 -- of a run to cycle k from the start times xs on
 pub record RunLimits (c : Case) (xs : List Seconds) (k : ℕ) : Type 0 where
   pub table : TableLimits (c .n) (network c .times)
-  pub few-cycles : k ≤ 64
+  pub few-cycles : k ≤ mostCycles
   pub starts-small : StartsSmall (take (c .n) xs)
 
 -- a table of rows in their limit is in the limits
-table-of : {n : ℕ} {es : List Slot} → 1 ≤ n → n ≤ 7 → RowsInLimit n n es → TableLimits n (map timeOf (take (n * n) es))
+table-of : {n : ℕ} {es : List Slot} → Departures n → RowsInLimit n n es → TableLimits n (tableOf n es)
 unfolding time
-table-of a b r = record { some-departures = a; few-departures = b; regular = rows-regular r; times-small = λ i j. time-small (rows-in r) _ }
+table-of d r = record { departures = d; regular = rows-regular r; times-small = λ i j. time-small (rows-in r) _ }
 
 module _ (c : Case) (capacity size : ℕ) (h : callFault c capacity size ≡ none) where
   -- the network of a call without a fault is in the limits
@@ -190,7 +182,7 @@ module _ (c : Case) (capacity size : ℕ) (h : callFault c capacity size ≡ non
   limits-of =
       let facts = simp no-fault at h in
       record {
-        table = table-of (omega arith) (omega arith) (facts .0 .0 .1 .1);
+        table = table-of (omega arith) (facts .0 .0 .1 .1);
         some-cycles = omega arith;
         few-cycles = omega arith;
         start-small = bound-small (facts .0 .1 .0) (c .n);
@@ -198,16 +190,16 @@ module _ (c : Case) (capacity size : ℕ) (h : callFault c capacity size ≡ non
       }
 
   -- Z is in its limits, and the workspace is long enough for it
-  pub room-of : (1 ≤ capacity) × (capacity ≤ 4096) × (2 * capacity * (c .n + 1) * (c .n + 1) ≤ size)
+  pub room-of : (1 ≤ capacity) × (capacity ≤ mostZones) × (workspaceSize capacity (c .n) ≤ size)
   unfolding callFault roomFault outside
   room-of = let facts = simp no-fault at h in omega arith
 
-  -- a run of the case to a cycle from 0 to 64 meets no fault if its start times are in their limit
-  pub run-without : (xs : List Seconds) (k : ℕ) → k ≤ 64 → StartsSmall (take (c .n) xs) → runFault c xs k ≡ none
+  -- a run of the case to a cycle in its limit meets no fault if its start times are in their limit
+  pub run-without : (xs : List Seconds) (k : ℕ) → k ≤ mostCycles → StartsSmall (take (c .n) xs) → runFault c xs k ≡ none
   unfolding callFault caseFault runFault tableFault outside beyond
   run-without xs k l small =
       let facts = simp no-fault at h in
-      let starts = map-every {P = InLimit 1000000000000} (λ x. present (x .0)) (every-map (λ x. le-ltb _ _) small) in
+      let starts = map-every {P = InLimit startLimit} (λ x. present (x .0)) (every-map (λ x. le-ltb _ _) small) in
       simp no-fault ((facts .0 .0 .0, ((omega arith, omega arith), facts .0 .0 .1 .1)), starts)
 
 -- a run without a fault is in the limits
@@ -216,7 +208,7 @@ unfolding runFault tableFault outside beyond network
 run-limits c xs k h =
     let facts = simp no-fault at h in
     record {
-      table = table-of (omega arith) (omega arith) (facts .0 .1 .1);
+      table = table-of (omega arith) (facts .0 .1 .1);
       few-cycles = omega arith;
       starts-small = every-map (λ x. ltb-false _ _) (of-map-every (λ x. present (x .0)) (take (c .n) xs) (facts .1));
     }

@@ -1,11 +1,19 @@
--- A property of every element of a list, and of the lists that `tabulate`, `flatten` and `++` make.
+-- A property of every number below another, of every element of a list, and of the lists that `tabulate`, `flatten` and `++` make.
 use Prim.Native.Nat.{ℕ, zero, suc, _+_, _<_}
 use native.Mathlib.Omega.{arith}
+use native.Mathlib.Decide.{ℕ-discrete}
 use mathlib.Core.Path.{_≡_, refl}
 use mathlib.Core.Logic.{_⊎_, inl, inr, ⊎-elim}
 use mathlib.Core.List.{List, [], _∷_, _++_, map, flatten, flatMap}
 use lib.ListN.{length, getD}
 use Rattle.model.specs.Lists.{tabulate, Every, done, both, Some, here, there}
+
+-- every number below m has P; one more
+abbrev pub Below : (ℕ → Type 0) → ℕ → Type 0
+Below P m = (i : ℕ) → i < m → P i
+
+pub one-more : (P : ℕ → Type 0) (m : ℕ) → Below P m → P m → Below P (suc m)
+one-more P m below last i l = elim (ℕ-discrete i m) [ yes e ↦ rw e last | no e ↦ below i (omega arith) ]
 
 module _ {X : Type 0} {P : X → Type 0} where
   pub every-append : {xs ys : List X} → Every P xs → Every P ys → Every P (xs ++ ys)

@@ -1,17 +1,18 @@
--- Times as a max-plus semiring: `later` adds and a blank is its zero, `after` multiplies and zero seconds is its one.
+-- Times as a max-plus semiring: `later` adds and a blank is its zero, `after` multiplies.
 -- The laws of `later` and `latest` come from an order on times, in which each is a least upper bound.
 use Prim.Native.Nat.{ℕ, zero, suc, _+_, _-_, _≤_, _<_}
 use native.Mathlib.Omega.{arith}
 use mathlib.Core.Path.{_≡_, refl, ap, sym, _∙_}
 use mathlib.Core.List.{List, [], _∷_, map}
 use mathlib.Core.Bool.{Bool, true, false, cond}
-use lib.IntN.{ℤ, pos, _+ℤ_}
+use lib.IntN.{ℤ, _+ℤ_}
 use lib.Signed.{_≤ℤ_, leZ}
 use lib.ListN.{length, getD}
-use Rattle.ints.proofs.Integers.{up, dn, ints, le-nat, nat-le, add-ud}
-use Rattle.model.specs.Lists.{tabulate}
+use Rattle.ints.proofs.Integers.{impossible, up, dn, ints, le-nat, nat-le, add-ud}
+use Rattle.model.specs.Lists.{tabulate, Every, done, both}
 use Rattle.model.specs.Network.{Time, blank, secs, later, latest, after}
-use Rattle.model.proofs.Entries.{length-tabulate, getD-tabulate}
+use Rattle.model.proofs.Listed.{every-tabulate}
+use Rattle.model.proofs.Entries.{getD-tabulate}
 use Rattle.model.proofs.Tabulated.{tabulate-ext, map-tabulate}
 
 -- ---- the order: the first is a blank, or at most the second
@@ -65,13 +66,10 @@ later-upper (secs a) (secs b) = go (leZ a b) refl
 pub later-least : {t u v : Time} → LeT t v → LeT u v → LeT (later t u) v
 later-least {t} {u} {v} h k = later-either (λ x. LeT x v) t u h k
 
--- a blank is the unit; it is idempotent, commutative and associative
+-- a blank is the unit; it is commutative and associative
 pub later-blank : (t : Time) → later blank t ≡ t
 unfolding later
 later-blank t = refl
-
-pub later-idem : (t : Time) → later t t ≡ t
-later-idem t = leT-antisym (later-least (leT-refl t) (leT-refl t)) (later-upper t t .0)
 
 pub later-comm : (t u : Time) → later t u ≡ later u t
 later-comm t u = let (a, b) = later-upper t u in let (c, d) = later-upper u t in leT-antisym (later-least d c) (later-least b a)
@@ -82,15 +80,10 @@ later-assoc t u v =
     let (b′, c′) = later-upper u v in let (a′, bc) = later-upper t (later u v) in
     leT-antisym (later-least (later-least a′ (leT-trans b′ bc)) (leT-trans c′ bc)) (later-least (leT-trans a ab) (later-least (leT-trans b ab) c))
 
--- ---- one after the other: a blank absorbs and zero seconds is the unit; it is commutative and associative
+-- ---- one after the other: a blank absorbs; it is commutative and associative
 pub after-blank : (t : Time) → after blank t ≡ blank
 unfolding after
 after-blank t = refl
-
-pub after-zero : (t : Time) → after (secs (pos 0)) t ≡ t
-unfolding after up dn
-after-zero blank = refl
-after-zero (secs a) = ap secs (omega (ints, add-ud (pos 0) a))
 
 pub after-comm : (t u : Time) → after t u ≡ after u t
 unfolding after
@@ -133,25 +126,16 @@ latest-upper [] i = low
 latest-upper (t ∷ ts) zero = later-upper t (latest ts) .0
 latest-upper (t ∷ ts) (suc i) = leT-trans (latest-upper ts i) (later-upper t (latest ts) .1)
 
--- a time that is at least each element is at least the latest
-pub latest-least : (ts : List Time) {u : Time} → ((i : ℕ) → i < length ts → LeT (getD ts i blank) u) → LeT (latest ts) u
+-- what holds of a blank and of each element holds of the latest
+pub latest-either : (P : Time → Type 0) → P blank → {ts : List Time} → Every P ts → P (latest ts)
 unfolding latest
-latest-least [] h = low
-latest-least (t ∷ ts) h = later-least (h 0 (omega arith)) (latest-least ts (λ i l. h (suc i) (omega arith)))
-
--- a number in the list is the latest if every element is a blank or at most that number
-pub latest-is : (ts : List Time) {v : ℤ} → ((i : ℕ) → i < length ts → LeT (getD ts i blank) (secs v))
-    → (i : ℕ) → getD ts i blank ≡ secs v → latest ts ≡ secs v
-latest-is ts h i e = leT-antisym (latest-least ts h) (rw e at (latest-upper ts i))
-
--- no number in the list is larger than the latest
-pub latest-bounds : (ts : List Time) {v : ℤ} → latest ts ≡ secs v → (i : ℕ) {u : ℤ} → getD ts i blank ≡ secs u → u ≤ℤ v
-latest-bounds ts {v} e i d = let (w, f, h) = leT-secs (rw d at (latest-upper ts i)) in let z : w ≡ v = cc in rw z at h
+latest-either P b done = b
+latest-either P b (both {x = t} {xs = ts} h p) = later-either P t (latest ts) h (latest-either P b p)
 
 -- a latest that is a number is in the list
 pub latest-attained : (ts : List Time) {v : ℤ} → latest ts ≡ secs v → (i : ℕ) × (i < length ts) × (getD ts i blank ≡ secs v)
 unfolding latest
-latest-attained [] e = absurd (let z : _≡_ {A = ℕ} 0 1 = cc in omega arith)
+latest-attained [] e = impossible cc
 latest-attained (t ∷ ts) {v} e =
     later-either (λ x. x ≡ secs v → (i : ℕ) × (i < length (t ∷ ts)) × (getD (t ∷ ts) i blank ≡ secs v)) t (latest ts)
     (λ d. (0, omega arith, d)) (λ d. let (i, l, f) = latest-attained ts d in (suc i, omega arith, f)) e
@@ -169,9 +153,7 @@ module _ (n : ℕ) where
 
   -- a time that is at least each of them is at least the latest
   pub latestOf-least : (f : ℕ → Time) {v : Time} → ((i : ℕ) → 1 ≤ i → i ≤ n → LeT (f i) v) → LeT (latestOf n f) v
-  latestOf-least f h = latest-least (tabulate n 1 f) (λ i l.
-      let l′ : i < n = rw (length-tabulate n 1 f) at l in
-      rw (getD-tabulate n 1 i f blank l′) (h (1 + i) (omega arith) (omega arith)))
+  latestOf-least f {v} h = latest-either (λ t. LeT t v) low (every-tabulate n 1 f (λ i l. h (1 + i) (omega arith) (omega arith)))
 
   -- it depends on f 1 to f n alone
   pub latestOf-cong : (f g : ℕ → Time) → ((i : ℕ) → 1 ≤ i → i ≤ n → f i ≡ g i) → latestOf n f ≡ latestOf n g
@@ -197,6 +179,7 @@ latestSum n f g = latestOf n (λ l. after (f l) (g l))
 pub latestSum-assoc : (n : ℕ) (f g : ℕ → Time) (h : ℕ → ℕ → Time)
     → latestSum n (λ l. latestSum n f (h l)) g ≡ latestSum n f (λ j. latestSum n g (λ l. h l j))
 latestSum-assoc n f g h =
-    latestOf-cong n _ _ (λ l _ _. after-comm (latestSum n f (h l)) (g l) ∙ sym (after-latestOf n (g l) _) ∙ latestOf-cong n _ _ (λ j _ _. after-left-comm (g l) (f j) (h l j)))
+    latestOf-cong n _ _ (λ l _ _. after-comm (latestSum n f (h l)) (g l) ∙ sym (after-latestOf n (g l) _)
+    ∙ latestOf-cong n _ _ (λ j _ _. after-left-comm (g l) (f j) (h l j)))
     ∙ exchange n n (λ l j. after (f j) (after (g l) (h l j)))
     ∙ latestOf-cong n _ _ (λ j _ _. after-latestOf n (f j) (λ l. after (g l) (h l j)))

@@ -20,8 +20,8 @@ holds-by x i j k h l =
     holds-sum (x i -ℤ x k) (x k -ℤ x j) (x i -ℤ x j) h l
     (omega (ints, sub-ud (x i) (x k), sub-ud (x k) (x j), sub-ud (x i) (x j), add-ud (x i -ℤ x k) (x k -ℤ x j)))
 
-entry-relaxed : (m : ℕ) (d : Matrix) (a b : ℕ) (c : ℤ) (i j : ℕ) → i < m → j < m
-    → entry m (relaxed m d a b c) i j ≡ tighter (entry m d i j) (plus (plus (entry m d i a) (most c)) (entry m d b j))
+pub entry-relaxed : (m : ℕ) (d : Matrix) (a b : ℕ) (c : Bound) (i j : ℕ) → i < m → j < m
+    → entry m (relaxed m d a b c) i j ≡ tighter (entry m d i j) (plus (plus (entry m d i a) c) (entry m d b j))
 unfolding relaxed
 entry-relaxed m d a b c i j hi hj = entry-matrix m i j _ hi hj
 
@@ -32,14 +32,14 @@ module _ {m : ℕ} {d : Matrix} {a b : ℕ} (ha : a < m) (hb : b < m) (x : ℕ �
   within-sound cl free mem = (mem, any)
   within-sound cl (kept {c} ok) mem = (λ i j hi hj. leB-trans (tight i j hi hj) (tighter-left _ _), leB-trans (tight a b ha hb) at-limit)
     where
-      tight : (i j : ℕ) → i < m → j < m → Holds (x i -ℤ x j) (tighter (entry m d i j) (plus (plus (entry m d i a) (most c)) (entry m d b j)))
+      tight : (i j : ℕ) → i < m → j < m → Holds (x i -ℤ x j) (tighter (entry m d i j) (plus (plus (entry m d i a) c) (entry m d b j)))
       tight i j hi hj = rw (entry-relaxed m d a b c i j hi hj) at (mem i j hi hj)
 
-      at-limit : LeB (tighter (entry m d a b) (plus (plus (entry m d a a) (most c)) (entry m d b b))) (most c)
+      at-limit : LeB (tighter (entry m d a b) (plus (plus (entry m d a a) c) (entry m d b b))) c
       at-limit =
-          let e : plus (plus (entry m d a a) (most c)) (entry m d b b) ≡ most c
+          let e : plus (plus (entry m d a a) c) (entry m d b b) ≡ c
           = rw (cl .diag a ha, cl .diag b hb, plus-zero, plus-comm, plus-zero) in
-          rw e (tighter-right (entry m d a b) (most c))
+          rw e (tighter-right (entry m d a b) c)
 
   pub within-complete : {limit : Bound} {d′ : Matrix} → Within m d a b limit (some d′) → Member m d x → Holds (x a -ℤ x b) limit → Member m d′ x
   within-complete free mem h = mem

@@ -10,12 +10,13 @@ use lib.Dec.{leb, eqb}
 use lib.ListN.{length, length-append}
 use lib.Seq.{take-at, drop-at}
 use borrow.Author.Tests.{eqb-false}
+use Rattle.model.specs.Sizes.{mostDepartures, mostCycles, timeLimit, boundLimit, patternSize, departuresWidth, horizonWidth, timeWidth, boundWidth}
 use Rattle.model.specs.declared.Slot.{Slot}
 use Rattle.model.specs.declared.Case.{Case}
 use Rattle.model.specs.declared.Fault.{Fault}
 use Rattle.model.specs.declared.Fault.the-variants as fault
 use Rattle.model.specs.Network.{regular}
-use Rattle.model.specs.Faults.{timeOf, present, beyond, patternSize, outside, tableFault, patternsFault, caseFault, roomFault, callFault}
+use Rattle.model.specs.Faults.{timeOf, present, beyond, outside, tableFault, patternsFault, caseFault, roomFault, callFault}
 use Rattle.model.specs.Packed.{Reading, got, refused, andThen, bitAt, numAt, bits, signed, entry, entries, rows, bounds, fill, body, parse}
 use Rattle.model.specs.Lists.{Every, done, both}
 use Rattle.model.specs.Conditions.{InLimit}
@@ -88,7 +89,7 @@ abbrev Lacks : ℕ → ℕ → List Slot → Type 0
 Lacks n k before = (rest : List Slot) → RowsInLimit n k rest → RowsInLimit n n (before ++ rest)
 
 -- one of the k rows, read after before
-one-less : (n k : ℕ) (before es : List Slot) → Every (InLimit 86400) es → length es ≡ n → regular (map timeOf es) ≡ true
+one-less : (n k : ℕ) (before es : List Slot) → Every (InLimit timeLimit) es → length es ≡ n → regular (map timeOf es) ≡ true
     → Lacks n (suc k) before → Lacks n k (before ++ es)
 one-less n k before es h l t lacks rest r =
     let is = take-at es rest n l in
@@ -100,13 +101,13 @@ module _ (s : List ℕ) (n : ℕ) where
   unfolding rows
   rows-give zero p before lacks = value lacks
   rows-give (suc k) p before lacks =
-      then-gives (entries-give s 18 86400 fault.Time n n p done (omega arith)) (λ es q h.
+      then-gives (entries-give s timeWidth timeLimit fault.Time n n p done (omega arith)) (λ es q h.
       test-gives (regular (map timeOf es)) (λ t. rows-give k q (before ++ es) (one-less n k before es (h .0) (h .1) t lacks)) (λ t. no-value))
 
   -- bounds that are read are in their limit, and as many as a pattern has
-  bounds-give : (p : ℕ) → Gives (λ es q. Every (InLimit 1000000) es × (length es ≡ patternSize n)) (bounds s n p)
+  bounds-give : (p : ℕ) → Gives (λ es q. Every (InLimit boundLimit) es × (length es ≡ patternSize n)) (bounds s n p)
   unfolding bounds
-  bounds-give p = entries-give s 21 1000000 fault.Bound (patternSize n) (patternSize n) p done (omega arith)
+  bounds-give p = entries-give s boundWidth boundLimit fault.Bound (patternSize n) (patternSize n) p done (omega arith)
 
 -- ---- the case
 -- none of the faults 2 to 6
@@ -115,7 +116,7 @@ Faultless c q = caseFault c ≡ none
 
 module _ (s : List ℕ) where
   -- the tables, where the two numbers are in their limits
-  body-gives : (n h p : ℕ) → 1 ≤ n → n ≤ 7 → 1 ≤ h → h ≤ 64 → Gives Faultless (body s n h p)
+  body-gives : (n h p : ℕ) → 1 ≤ n → n ≤ mostDepartures → 1 ≤ h → h ≤ mostCycles → Gives Faultless (body s n h p)
   unfolding body caseFault tableFault patternsFault outside
   body-gives n h p n-some n-few h-some h-few =
       then-gives (rows-give s n n p [] (λ rest r. r)) (λ times a t.
@@ -131,9 +132,9 @@ module _ (s : List ℕ) where
   parse-gives : Gives Faultless (parse s)
   unfolding parse
   parse-gives =
-      then-gives (bits-give s 3 0 0) (λ n a l.
+      then-gives (bits-give s departuresWidth 0 0) (λ n a l.
       test-gives (eqb n 0) (λ t. no-value) (λ t.
-      then-gives (bits-give s 6 a a) (λ m b k.
+      then-gives (bits-give s horizonWidth a a) (λ m b k.
       body-gives n (m + 1) b (omega (arith, eqb-false)) (omega arith) (omega arith) (omega arith))))
 
   module _ (c : Case) (q : ℕ) (e : parse s ≡ got c q) where

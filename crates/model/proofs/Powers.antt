@@ -1,15 +1,16 @@
 -- Powers of a table: r + 1 cycles are the product with power r + 1,
 -- and from a power that is an earlier one with a number added, the times repeat with that number added.
-use Prim.Native.Nat.{ℕ, zero, suc, _+_, _*_, _-_, _≤_, _<_}
+use Prim.Native.Nat.{ℕ, zero, suc, _+_, _*_, _-_, _≤_}
 use native.Mathlib.Omega.{arith}
 use mathlib.Core.Path.{_≡_, refl, ap, sym, fun-ext, _∙_}
 use mathlib.Core.List.{List, _∷_, flatten}
 use lib.IntN.{ℤ}
-use lib.ListN.{length, getD, List·getD-map}
+use lib.ListN.{length, List·getD-map}
+use Rattle.model.specs.Sizes.{tableSize}
 use Rattle.model.specs.Lists.{tabulate}
 use Rattle.model.specs.Network.{Time, blank, secs, time, after, clocked, next, cycle, cycles, product, powersFrom, power, added}
 use Rattle.model.specs.Conditions.{Regular}
-use Rattle.model.proofs.Entries.{getD-tabulate, rows, length-rows, getD-rows}
+use Rattle.model.proofs.Entries.{rows, length-rows, getD-rows}
 use Rattle.model.proofs.Tabulated.{tabulate-suc}
 use Rattle.model.proofs.MaxPlus.{leT-secs, after-left-comm, latestOf-upper, latestOf-cong, after-latestOf, latestSum, latestSum-assoc}
 use Rattle.model.proofs.Cycles.{shift, length-cycle, cycles-add, clocked-cycle, cycle-is, shifted, cycles-shift}
@@ -19,10 +20,6 @@ pub powersFrom-is : (n : ℕ) (a : List Time) (k r : ℕ) → powersFrom k n a (
 unfolding powersFrom tabulate power
 powersFrom-is n a zero r = refl
 powersFrom-is n a (suc k) r = ap (_∷_ (power n a r)) (powersFrom-is n a k (suc r))
-
--- its element i
-pub getD-powersFrom : (n : ℕ) (a : List Time) (k r i : ℕ) (z : List Time) → i < k → getD (powersFrom k n a (power n a r)) i z ≡ power n a (r + i)
-getD-powersFrom n a k r i z h = rw (powersFrom-is n a k r) (getD-tabulate k r i (power n a) z h)
 
 -- an entry of a table with c added
 pub time-added : (n : ℕ) (c : ℤ) (a : List Time) (i j : ℕ) → time n (added c a) i j ≡ after (secs c) (time n a i j)
@@ -35,8 +32,8 @@ module _ (n : ℕ) (a b : List Time) where
   unfolding product
   product-rows = ap (λ (f : ℕ → List Time). flatten (tabulate n 1 f)) (fun-ext (λ i. tabulate-suc n 0 _))
 
-  -- it has n * n entries
-  pub length-product : length (product n a b) ≡ n * n
+  -- it has as many entries as a table
+  pub length-product : length (product n a b) ≡ tableSize n
   length-product = rw product-rows (length-rows n n 1 _)
 
   -- entry (i, j) is row i of the first by column j of the second

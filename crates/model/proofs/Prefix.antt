@@ -1,4 +1,4 @@
--- The first 427 bytes decide what reading gives: no case is longer than 426, and a byte more shows that one follows.
+-- One byte more than the longest case has decides what reading gives: it shows that a byte follows.
 -- `Agree last x y` says that x and y are one reading, whose place after it, if it gives a value, is at most last.
 use Prim.Native.Nat.{ℕ, zero, suc, _+_, _-_, _*_, _/_, _%_, _^_, _≤_, _<_}
 use native.Mathlib.Omega.{arith}
@@ -10,11 +10,13 @@ use lib.Dec.{leb, eqb}
 use lib.ListN.{length, take}
 use lib.Seq.{take-all, length-take-le, getD-take}
 use borrow.Author.Tests.{leb-true, leb-false, le-leb, ne-eqb}
+use Rattle.model.specs.Sizes.{mostDepartures, tableSize, timeLimit, boundLimit, patternSize, mostTimes, mostBounds}
+use Rattle.model.specs.Sizes.{departuresWidth, horizonWidth, timeWidth, boundWidth, mostBits, mostBytes}
 use Rattle.model.specs.declared.Slot.{Slot}
 use Rattle.model.specs.declared.Fault.{Fault}
 use Rattle.model.specs.declared.Fault.the-variants as fault
 use Rattle.model.specs.Network.{regular}
-use Rattle.model.specs.Faults.{timeOf, present, beyond, patternSize}
+use Rattle.model.specs.Faults.{timeOf, present, beyond}
 use Rattle.model.specs.Packed.{Reading, got, refused, andThen, bitAt, numAt, bits, signed, entry, entries, rows, bounds, zeros, fill, body, parse}
 use Rattle.model.proofs.Digits.{num-same}
 use Rattle.model.proofs.Parsed.{num-small}
@@ -72,16 +74,17 @@ module _ (s t : List ℕ) (top : ℕ) (long : top ≤ 8 * length s) (long' : top
       agree-then (entry-agrees w limit f p (omega arith)) (λ e q l.
       agree-later (omega arith) (entries-agree w limit f k q (before ++ e ∷ []) (omega arith)))
 
-  rows-agree : (n k p : ℕ) (before : List Slot) → p + k * (n * 19) ≤ top → Agree (p + k * (n * 19)) (rows s n k p before) (rows t n k p before)
+  rows-agree : (n k p : ℕ) (before : List Slot) → p + k * n * suc timeWidth ≤ top
+      → Agree (p + k * n * suc timeWidth) (rows s n k p before) (rows t n k p before)
   unfolding rows
   rows-agree n zero p before h = value {q = p} (omega arith)
   rows-agree n (suc k) p before h =
-      agree-then (entries-agree 18 86400 fault.Time n p [] (omega arith)) (λ es q l.
+      agree-then (entries-agree timeWidth timeLimit fault.Time n p [] (omega arith)) (λ es q l.
       agree-test (regular (map timeOf es)) (agree-later (omega arith) (rows-agree n k q (before ++ es) (omega arith))) no-value)
 
-  bounds-agree : (n p : ℕ) → p + patternSize n * 22 ≤ top → Agree (p + patternSize n * 22) (bounds s n p) (bounds t n p)
+  bounds-agree : (n p : ℕ) → p + patternSize n * suc boundWidth ≤ top → Agree (p + patternSize n * suc boundWidth) (bounds s n p) (bounds t n p)
   unfolding bounds
-  bounds-agree n p h = entries-agree 21 1000000 fault.Bound (patternSize n) p [] h
+  bounds-agree n p h = entries-agree boundWidth boundLimit fault.Bound (patternSize n) p [] h
 
   zeros-agree : (k p : ℕ) → p + k ≤ top → Agree (p + k) (zeros s k p) (zeros t k p)
   unfolding zeros
@@ -96,38 +99,39 @@ module _ (s t : List ℕ) (top : ℕ) (long : top ≤ 8 * length s) (long' : top
       agree-then (zeros-agree ((8 - p % 8) % 8) p (omega arith)) (λ z q l.
       rw (ne-eqb q (8 * length s) (λ e. omega arith), ne-eqb q (8 * length t) (λ e. omega arith)) no-value)
 
-  body-agrees : (n h p : ℕ) → n ≤ 7 → p + 3403 ≤ top → Agree (p + 3403) (body s n h p) (body t n h p)
+  body-agrees : (n h p : ℕ) → n ≤ mostDepartures → p ≤ departuresWidth + horizonWidth → mostBits + 8 ≤ top
+      → Agree (mostBits + 8) (body s n h p) (body t n h p)
   unfolding body
-  body-agrees n h p few room =
-      let wide : n * 19 ≤ 133 = omega arith in
-      let more : n + 1 ≤ 8 = omega arith in
-      let squares = mul-le-mul few wide in
-      let pairs = mul-le-mul few more in
-      agree-then (rows-agree n n p [] (omega (arith, squares))) (λ times a l.
-      agree-then (bounds-agree n a (omega (arith, squares, pairs))) (λ start b m.
-      agree-then (bounds-agree n b (omega (arith, squares, pairs))) (λ target c k.
-      agree-then (fill-agrees c (omega (arith, squares, pairs))) (λ z d j.
-      value {q = d} (omega (arith, squares, pairs))))))
+  body-agrees n h p few near room =
+      let squares : tableSize n ≤ mostTimes = mul-le-mul few few in
+      let more : suc n ≤ suc mostDepartures = omega arith in
+      let pairs : patternSize n ≤ mostBounds = mul-le-mul few more in
+      agree-then (rows-agree n n p [] (omega arith)) (λ times a l.
+      agree-then (bounds-agree n a (omega arith)) (λ start b m.
+      agree-then (bounds-agree n b (omega arith)) (λ target c k.
+      agree-then (fill-agrees c (omega arith)) (λ z d j.
+      value {q = d} (omega arith)))))
 
-  parse-agrees : 3412 ≤ top → Agree 3412 (parse s) (parse t)
+  parse-agrees : mostBits + 8 ≤ top → Agree (mostBits + 8) (parse s) (parse t)
   unfolding parse
   parse-agrees room =
-      let n = numAt t 0 3 in
-      rw (read-s 3 0 0 (omega arith), read-t 3 0 0 (omega arith))
+      let n = numAt t 0 departuresWidth in
+      rw (read-s departuresWidth 0 0 (omega arith), read-t departuresWidth 0 0 (omega arith))
       (agree-test (eqb n 0) no-value
-      (agree-then (bits-agree 6 3 3 (omega arith)) (λ m q l.
-      agree-later (omega arith) (body-agrees n (m + 1) q (omega (arith, num-small t 0 3)) (omega arith)))))
+      (agree-then (bits-agree horizonWidth departuresWidth departuresWidth (omega arith)) (λ m q l.
+      body-agrees n (m + 1) q (omega (arith, num-small t 0 departuresWidth)) l room)))
 
 bit-of-prefix : (m : ℕ) (s : List ℕ) (p : ℕ) → p / 8 < m → bitAt (take m s) p ≡ bitAt s p
 unfolding bitAt
 bit-of-prefix m s p h = rw (getD-take m s (p / 8) 0 h) refl
 
--- a list of bytes is read as its first m bytes are, for every m from 427 on
-pub prefix-decides : (m : ℕ) (s : List ℕ) → 427 ≤ m → parse (take m s) ≡ parse s
+-- a list of bytes is read as its first m bytes are, where m is more than the longest case has
+pub prefix-decides : (m : ℕ) (s : List ℕ) → mostBytes < m → parse (take m s) ≡ parse s
 prefix-decides m s h = go (leb (length s) m) refl
   where
     go : (b : Bool) → leb (length s) m ≡ b → parse (take m s) ≡ parse s
     go true e = rw (take-all m s (leb-true (length s) m e)) refl
     go false e =
-        let l = length-take-le m s (omega (arith, leb-false (length s) m e)) in
-        agree-same (parse-agrees (take m s) s 3416 (omega (arith, l)) (omega (arith, leb-false (length s) m e)) (λ p k. bit-of-prefix m s p (omega arith)) (omega arith))
+        let more : m < length s = leb-false (length s) m e in
+        let long = length-take-le m s (omega arith) in
+        agree-same (parse-agrees (take m s) s (mostBits + 8) (omega arith) (omega arith) (λ p k. bit-of-prefix m s p (omega arith)) (omega arith))

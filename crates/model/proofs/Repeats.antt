@@ -1,20 +1,21 @@
--- What `repeatOf` finds: the first power that is an earlier one with a number added, or that there is none among the first sixty-four.
+-- What `repeatOf` finds: the first power that is an earlier one with a number added, or that there is none among the first mostCycles.
 -- For two powers the search tries one number, their gap. If the table is regular, no other number can be what is added.
 use Prim.Native.Nat.{ℕ, zero, suc, _+_, _-_, _≤_, _<_}
 use native.Mathlib.Omega.{arith}
 use native.Mathlib.Nat.{zero-add}
-use native.Mathlib.Decide.{ℕ-discrete, decLt}
 use mathlib.Core.Path.{_≡_, refl, sym, ap, _∙_}
 use mathlib.Core.List.{List, [], _∷_, _++_}
 use mathlib.Core.Option.{Option, none, some}
 use mathlib.Core.Bool.{Bool, true, false, cond}
 use lib.IntN.{ℤ, _+ℤ_}
 use lib.ListN.{getD}
-use Rattle.ints.proofs.Integers.{ints, add-ud, sub-ud}
+use Rattle.ints.proofs.Integers.{impossible, ints, add-ud, sub-ud}
+use Rattle.model.specs.Sizes.{mostCycles}
 use Rattle.model.specs.Lists.{tabulate, sameLists}
 use Rattle.model.specs.Network.{Time, blank, secs, Network, time, after, power, added, gap, sameTime, Repeat, repeats, firstRepeat, repeatOf}
 use Rattle.model.specs.Demands.{LeastRepeat}
 use Rattle.model.specs.Conditions.{Regular}
+use Rattle.model.proofs.Listed.{Below, one-more}
 use Rattle.model.proofs.Same.{sameLists-true, sameLists-refl, sameTime-true, sameTime-refl}
 use Rattle.model.proofs.Tabulated.{tabulate-snoc}
 use Rattle.model.proofs.Powers.{power-regular, powersFrom-is}
@@ -29,19 +30,7 @@ gap-added c (secs t ∷ ts) i e = omega (ints, add-ud c t, sub-ud (c +ℤ t) t)
 
 -- tables that fail the test are not equal
 differ : (a b : List Time) → sameLists sameTime a b ≡ false → ¬ (a ≡ b)
-differ a b e d = let z : _≡_ {A = ℕ} 0 1 = cc (rw d at e, sameLists-refl sameTime sameTime-refl b) in omega arith
-
--- P holds of every number below m
-abbrev pub Below : (ℕ → Type 0) → ℕ → Type 0
-Below P m = (i : ℕ) → i < m → P i
-
--- what holds below m and of m holds below m + 1
-one-more : (P : ℕ → Type 0) (m : ℕ) → Below P m → P m → Below P (suc m)
-one-more P m below here i l = go (ℕ-discrete i m)
-  where
-    go : Dec (i ≡ m) → P i
-    go (yes e) = rw e here
-    go (no ne) = below i (omega arith)
+differ a b e d = impossible (cc (rw d at e, sameLists-refl sameTime sameTime-refl b))
 
 module _ (w : Network) where
   -- power r + 1 of the network's table
@@ -63,7 +52,7 @@ module _ (w : Network) where
     pub p-is : r .p ≡ suc p′
     pub q-is : r .q ≡ suc q′
     pub earlier : p′ < q′
-    pub among : q′ < 64
+    pub among : q′ < mostCycles
     pub again : powers q′ ≡ added (r .number) (powers p′)
     pub first : Below New q′
 
@@ -73,14 +62,14 @@ module _ (w : Network) where
   Found A none = A
 
   -- power q + 1 is looked for among the earlier ones, from power s + 1 on
-  module _ (q : ℕ) (among : q < 64) (first : Below New q) where
+  module _ (q : ℕ) (among : q < mostCycles) (first : Below New q) where
     repeats-is : (m s : ℕ) → s + m ≡ q → Below (λ p. ¬ (Again p q)) s → Found (New q) (repeats (suc q) (suc s) (tabulate m s powers) (powers q))
     unfolding repeats tabulate
     repeats-is zero s d h = λ p l. h p (omega arith)
     repeats-is (suc m) s d h = go _ _ refl (λ here. repeats-is m (suc s) (omega arith) (one-more _ s h here))
       where
-        go : (t : Bool) (o : Option Repeat) → sameLists sameTime (added (gap (powers s) (powers q)) (powers s)) (powers q) ≡ t → (¬ (Again s q) → Found (New q) o)
-            → Found (New q) (cond t (some (record { q = suc q; p = suc s; number = gap (powers s) (powers q) })) o)
+        go : (t : Bool) (o : Option Repeat) → sameLists sameTime (added (gap (powers s) (powers q)) (powers s)) (powers q) ≡ t
+            → (¬ (Again s q) → Found (New q) o) → Found (New q) (cond t (some (record { q = suc q; p = suc s; number = gap (powers s) (powers q) })) o)
         go true o e more = record {
           p′ = s;
           q′ = q;
@@ -94,7 +83,7 @@ module _ (w : Network) where
         go false o e more = more (differ _ _ e)
 
   -- the first repeated power is looked for, from power s + 1 on
-  firstRepeat-is : (k s : ℕ) → s + k ≡ 64 → Below New s → Found (Below New 64) (firstRepeat (suc s) (tabulate s 0 powers) (tabulate k s powers))
+  firstRepeat-is : (k s : ℕ) → s + k ≡ mostCycles → Below New s → Found (Below New mostCycles) (firstRepeat (suc s) (tabulate s 0 powers) (tabulate k s powers))
   unfolding firstRepeat tabulate
   firstRepeat-is zero s d h = λ q l. h q (omega arith)
   firstRepeat-is (suc k) s d h =
@@ -102,14 +91,15 @@ module _ (w : Network) where
       (repeats-is s (omega arith) h s 0 (zero-add s) (λ p l. absurd (omega arith)))
       (λ here. rw (rw zero-add at (tabulate-snoc s 0 powers)) (firstRepeat-is k (suc s) (omega arith) (one-more New s h here)))
     where
-      go : (o rest : Option Repeat) → Found (New s) o → (New s → Found (Below New 64) rest) → Found (Below New 64) (elim o [ some r ↦ some r | none ↦ rest ])
+      go : (o rest : Option Repeat) → Found (New s) o → (New s → Found (Below New mostCycles) rest)
+          → Found (Below New mostCycles) (elim o [ some r ↦ some r | none ↦ rest ])
       go (some r) rest h more = h
       go none rest h more = more h
 
-  -- it is looked for among the first sixty-four
-  repeatOf-is : Found (Below New 64) (repeatOf w)
+  -- it is looked for among the first mostCycles
+  repeatOf-is : Found (Below New mostCycles) (repeatOf w)
   unfolding repeatOf power tabulate
-  repeatOf-is = rw (powersFrom-is (w .n) (w .times) 64 0) (firstRepeat-is 64 0 (zero-add 64) (λ q l. absurd (omega arith)))
+  repeatOf-is = rw (powersFrom-is (w .n) (w .times) mostCycles 0) (firstRepeat-is mostCycles 0 (zero-add mostCycles) (λ q l. absurd (omega arith)))
 
   -- what is found repeats an earlier power
   pub repeat-sound : {r : Repeat} → repeatOf w ≡ some r → Repeats r
@@ -131,9 +121,9 @@ module _ (w : Network) where
     pub repeat-first : {r : Repeat} → repeatOf w ≡ some r → NoRepeat (r .q)
     repeat-first e = let h = repeat-sound e in rw (h .q-is) (no-repeat (h .q′) (h .first))
 
-    -- where nothing is found, none of the first sixty-four repeats one
-    pub repeat-none : repeatOf w ≡ none → NoRepeat 65
-    repeat-none e = no-repeat 64 (rw e at repeatOf-is)
+    -- where nothing is found, none of the first mostCycles repeats one
+    pub repeat-none : repeatOf w ≡ none → NoRepeat (suc mostCycles)
+    repeat-none e = no-repeat mostCycles (rw e at repeatOf-is)
 
     -- what is found is the first repeated power as document 01 says
     pub repeat-is : {r : Repeat} → repeatOf w ≡ some r → LeastRepeat w r
@@ -148,20 +138,23 @@ module _ (w : Network) where
             earlier = omega (arith, h .p-is, h .q-is, h .earlier);
             again = ap powers q-is ∙ h .again ∙ ap (λ (i : ℕ). added (r .number) (powers i)) p-is;
           };
-          first = λ q p c l s. repeat-first e (p - 1) (q - 1) (omega (arith, s .from-one, s .earlier)) (omega (arith, s .from-one, s .earlier)) c (s .again);
+          first = λ q p c l s. let lower = s .from-one in let upper = s .earlier in repeat-first e (p - 1) (q - 1) (omega arith) (omega arith) c (s .again);
         }
 
     -- and where there is one, it is found, as the same power
     pub repeat-found : {r : Repeat} → LeastRepeat w r → (s : Repeat) × (repeatOf w ≡ some s) × (s .q ≡ r .q)
     repeat-found {r} least = go (repeatOf w) refl
       where
-        same : (s : Repeat) → LeastRepeat w s → Dec (s .q < r .q) → Dec (r .q < s .q) → s .q ≡ r .q
-        same s other (yes h) d = absurd (least .first (s .q) (s .p) (s .number) h (other .repeated))
-        same s other (no h) (yes l) = absurd (other .first (r .q) (r .p) (r .number) l (least .repeated))
-        same s other (no h) (no l) = omega arith
+        same : (s : Repeat) → LeastRepeat w s → s .q ≡ r .q
+        same s other =
+            let not-less : ¬ (s .q < r .q) = λ h. least .first (s .q) (s .p) (s .number) h (other .repeated) in
+            let not-more : ¬ (r .q < s .q) = λ h. other .first (r .q) (r .p) (r .number) h (least .repeated) in
+            omega arith
 
         go : (o : Option Repeat) → repeatOf w ≡ o → (s : Repeat) × (repeatOf w ≡ some s) × (s .q ≡ r .q)
         go none e =
             let is = least .repeated in
-            absurd (repeat-none e (r .p - 1) (r .q - 1) (omega (arith, is .from-one, is .earlier)) (omega (arith, is .from-one, is .earlier, least .among)) (r .number) (is .again))
-        go (some s) e = (s, e, same s (repeat-is e) (decLt (s .q) (r .q)) (decLt (r .q) (s .q)))
+            let lower = is .from-one in
+            let upper = is .earlier in
+            absurd (repeat-none e (r .p - 1) (r .q - 1) (omega arith) (omega (arith, least .among)) (r .number) (is .again))
+        go (some s) e = (s, e, same s (repeat-is e))

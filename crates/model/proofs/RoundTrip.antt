@@ -10,14 +10,15 @@ use lib.Dec.{eqb}
 use lib.ListN.{length, take, drop, replicate, length-append, length-map, length-drop}
 use lib.Seq.{take-at, take-add, length-take-le}
 use borrow.Author.Tests.{ne-eqb}
+use Rattle.model.specs.Sizes.{timeLimit, boundLimit, tableSize, patternSize, departuresWidth, horizonWidth, timeWidth, boundWidth}
 use Rattle.model.specs.declared.Slot.{Slot}
 use Rattle.model.specs.declared.Case.{Case}
 use Rattle.model.specs.declared.Fault.the-variants as fault
 use Rattle.model.specs.Lists.{padded}
 use Rattle.model.specs.Network.{regular}
-use Rattle.model.specs.Faults.{timeOf, patternSize, outside, tableFault, patternsFault, caseFault}
+use Rattle.model.specs.Faults.{timeOf, outside, tableFault, patternsFault, caseFault}
 use Rattle.model.specs.Packed.{got, rows, bounds, caseOf, body, parse}
-use Rattle.model.specs.Writing.{fieldBits, Kind, timeKind, boundKind, entriesBits, allBounds, caseBits, tidy, tidied}
+use Rattle.model.specs.Writing.{fieldBits, Kind, timeKind, boundKind, entriesBits, allBounds, caseBits, tidy, tidied, Whole}
 use Rattle.model.proofs.Limits.{RowsInLimit, no-row, row, no-fault}
 use Rattle.model.proofs.Parsed.{Gives, value, no-value, test-gives, then-gives}
 use Rattle.model.proofs.Spelled.{Spells, end, ends, join, split, bits-of, bits-spell}
@@ -26,10 +27,10 @@ use Rattle.model.proofs.Bytes.{missing, filled, fill-of, fill-spells}
 
 -- times and bounds are in what their widths hold
 time-lawful : Lawful timeKind
-time-lawful = slot-lawful 17 86400 fault.Time (omega arith)
+time-lawful = slot-lawful (timeWidth - 1) timeLimit fault.Time (omega arith)
 
 bound-lawful : Lawful boundKind
-bound-lawful = slot-lawful 20 1000000 fault.Bound (omega arith)
+bound-lawful = slot-lawful (boundWidth - 1) boundLimit fault.Bound (omega arith)
 
 -- what is said of an absent entry whatever its value is said of entries without the values that are ignored
 module _ {A Y : Type 0} (k : Kind A) (g : A → Y) (absent : (e : A) → k .has e ≡ false → g (k .absent) ≡ g e) where
@@ -63,7 +64,7 @@ module _ (s : List ℕ) (n : ℕ) where
       let e : suc r * n ≡ n + r * n = omega arith in
       let whole : take (suc r * n) es ≡ now ++ later = rw e (take-add n (r * n) es) in
       let (m, x, y) = entries-split timeKind now later (rw whole at t) in
-      let first = slots-of 18 86400 fault.Time time-lawful s n es (omega arith) inside x in
+      let first = slots-of timeWidth timeLimit fault.Time time-lawful s n es (omega arith) inside x in
       let others = rows-of (before ++ map (tidy timeKind) now) rest (omega (arith, length-drop n es)) y in
       rw (first, tidied-same timeKind timeOf (λ e h. rw h) now, reg, others, whole, map-append, append-assoc)
 
@@ -73,26 +74,20 @@ module _ (s : List ℕ) (n : ℕ) where
   unfolding rows
   rows-spell m zero first p before h e = value {a = before} (h, omega arith)
   rows-spell m (suc k) first p before h e =
-      then-gives (slots-spell 18 86400 fault.Time time-lawful s n p (omega (arith, ends h))) (λ es q r.
+      then-gives (slots-spell timeWidth timeLimit fault.Time time-lawful s n p (omega (arith, ends h))) (λ es q r.
       test-gives (regular (map timeOf es))
       (λ t. rows-spell m k first q (before ++ es) (rw (bits-append timeKind before es) (join h (r .0))) (omega (arith, r .1, length-append before es)))
       (λ t. no-value))
 
 -- ---- the case
--- its arrays are long enough for n
-pub record Whole (c : Case) : Type 0 where
-  pub times : c .n * c .n ≤ length (c .times)
-  pub start : patternSize (c .n) ≤ length (c .start)
-  pub target : patternSize (c .n) ≤ length (c .target)
-
 -- the bits of a case that is made of lists of the right length
-made : (n m : ℕ) (times start target : List Slot) → length times ≡ n * n → length start ≡ patternSize n → length target ≡ patternSize n
+made : (n m : ℕ) (times start target : List Slot) → length times ≡ tableSize n → length start ≡ patternSize n → length target ≡ patternSize n
     → caseBits (caseOf n (m + 1) times start target)
-    ≡ fieldBits 3 n ++ fieldBits 6 m ++ entriesBits timeKind times ++ (entriesBits boundKind start ++ entriesBits boundKind target)
+    ≡ fieldBits departuresWidth n ++ fieldBits horizonWidth m ++ entriesBits timeKind times ++ (entriesBits boundKind start ++ entriesBits boundKind target)
 unfolding caseBits
 made n m times start target t u v =
     let e : m + 1 - 1 ≡ m = omega arith in
-    rw (e, take-at times _ (n * n) t, take-at start _ (patternSize n) u, take-at target _ (patternSize n) v, bits-append boundKind start target)
+    rw (e, take-at times _ (tableSize n) t, take-at start _ (patternSize n) u, take-at target _ (patternSize n) v, bits-append boundKind start target)
 
 module _ (s : List ℕ) where
   -- the bits of a case are read as the case without what is ignored
@@ -102,9 +97,9 @@ module _ (s : List ℕ) where
       let facts = simp no-fault at h in
       let n = c .n in
       let size = patternSize n in
-      let D = fieldBits 3 n in
-      let N = fieldBits 6 (c .horizon .0 - 1) in
-      let T = entriesBits timeKind (take (n * n) (c .times)) in
+      let D = fieldBits departuresWidth n in
+      let N = fieldBits horizonWidth (c .horizon .0 - 1) in
+      let T = entriesBits timeKind (take (tableSize n) (c .times)) in
       let (f, in-front, zeros) = split (caseBits c) (replicate (missing (length (caseBits c))) 0) r in
       let (_, table, patterns) = split (D ++ N ++ T) (entriesBits boundKind (allBounds c)) in-front in
       let (_, head, times) = split (D ++ N) T table in
@@ -112,24 +107,24 @@ module _ (s : List ℕ) where
       let (_, start, target) = entries-split boundKind (take size (c .start)) (take size (c .target)) patterns in
       let one-less : c .horizon .0 - 1 + 1 ≡ c .horizon .0 = omega arith in
       rw (
-        bits-of s 3 0 n (omega arith) departures,
+        bits-of s departuresWidth 0 n (omega arith) departures,
         ne-eqb n 0 (λ z. omega arith),
-        bits-of s 6 d (c .horizon .0 - 1) (omega arith) horizon,
+        bits-of s horizonWidth d (c .horizon .0 - 1) (omega arith) horizon,
         one-less,
         rows-of s n [] (facts .0 .1 .1) (whole .times) times,
-        slots-of 21 1000000 fault.Bound bound-lawful s size (c .start) (whole .start) (facts .1 .0) start,
-        slots-of 21 1000000 fault.Bound bound-lawful s size (c .target) (whole .target) (facts .1 .1) target,
+        slots-of boundWidth boundLimit fault.Bound bound-lawful s size (c .start) (whole .start) (facts .1 .0) start,
+        slots-of boundWidth boundLimit fault.Bound bound-lawful s size (c .target) (whole .target) (facts .1 .1) target,
         fill-of s f in-front zeros,
       )
 
   -- what is read behind the two numbers is written behind them
-  body-spells : (n m p : ℕ) → Spells s 0 (fieldBits 3 n ++ fieldBits 6 m) p
+  body-spells : (n m p : ℕ) → Spells s 0 (fieldBits departuresWidth n ++ fieldBits horizonWidth m) p
       → Gives (λ c q. Spells s 0 (filled (caseBits c)) (8 * length s)) (body s n (m + 1) p)
   unfolding body bounds entriesBits flatMap
   body-spells n m p head =
-      then-gives (rows-spell s n (n * n) n p p [] (end p (omega (arith, ends head))) (omega arith)) (λ times a t.
-      then-gives (slots-spell 21 1000000 fault.Bound bound-lawful s (patternSize n) a (omega (arith, ends (t .0)))) (λ start b u.
-      then-gives (slots-spell 21 1000000 fault.Bound bound-lawful s (patternSize n) b (omega (arith, ends (u .0)))) (λ target c v.
+      then-gives (rows-spell s n (tableSize n) n p p [] (end p (omega (arith, ends head))) (omega arith)) (λ times a t.
+      then-gives (slots-spell boundWidth boundLimit fault.Bound bound-lawful s (patternSize n) a (omega (arith, ends (t .0)))) (λ start b u.
+      then-gives (slots-spell boundWidth boundLimit fault.Bound bound-lawful s (patternSize n) b (omega (arith, ends (u .0)))) (λ target c v.
       then-gives (fill-spells s c (join (join head (t .0)) (join (u .0) (v .0)))) (λ z d r.
       value {q = d} (rw (made n m times start target (t .1) (u .1) (v .1)) r)))))
 
@@ -137,7 +132,7 @@ module _ (s : List ℕ) where
   pub parse-spells : Gives (λ c q. Spells s 0 (filled (caseBits c)) (8 * length s)) (parse s)
   unfolding parse
   parse-spells =
-      then-gives (bits-spell s 3 0 0) (λ n a x.
+      then-gives (bits-spell s departuresWidth 0 0) (λ n a x.
       test-gives (eqb n 0) (λ t. no-value) (λ t.
-      then-gives (bits-spell s 6 a a) (λ m b y.
+      then-gives (bits-spell s horizonWidth a a) (λ m b y.
       body-spells n m b (join (x .0) (y .0)))))

@@ -1,7 +1,6 @@
 -- The search, cycle by cycle: what list k settles, when the target is met, and how the search ends.
 use Prim.Native.Nat.{ℕ, zero, suc, _+_, _-_, _≤_, _<_, min}
 use native.Mathlib.Omega.{arith}
-use native.Mathlib.Decide.{ℕ-discrete}
 use mathlib.Core.Path.{_≡_, refl, _∙_}
 use mathlib.Core.Bool.{Bool, true, false, cond, _||_}
 use mathlib.Core.List.{List, [], _∷_}
@@ -9,15 +8,17 @@ use mathlib.Core.Option.{Option, none, some, Option·map}
 use borrow.Author.Tests.{ltb-true, ltb-false, leb-true, leb-false}
 use lib.ListN.{length}
 use lib.Dec.{ltb, leb}
+use Rattle.ints.proofs.Integers.{impossible}
 use Rattle.model.specs.Lists.{when, orElse, Every, done, both, Some, here, there}
 use Rattle.model.specs.Bound.{Bound}
 use Rattle.model.specs.Matrix.{Matrix}
 use Rattle.model.specs.Pattern.{onlyDifferences}
 use Rattle.model.specs.Network.{Network, clocked, Repeat, repeatOf}
-use Rattle.model.specs.Search.{lists, common, firstCommon, pick, Outcome, reached, clear, never, tableFull, boundTooLarge, Plan, planWith, plan, someLarge, settled, searchFrom, outcome}
+use Rattle.model.specs.Search.{lists, common, firstCommon, pick, Outcome, reached, clear, never, tableFull}
+use Rattle.model.specs.Search.{boundTooLarge, Plan, planWith, plan, someLarge, settled, searchFrom, outcome}
 use Rattle.model.specs.Demands.{Witness, Met, Differences}
 use Rattle.model.specs.Conditions.{Regular}
-use Rattle.model.proofs.Listed.{some-map, some-at, every-some}
+use Rattle.model.proofs.Listed.{one-more, some-map, some-at, every-some}
 use Rattle.model.proofs.Patterns.{common-some, common-none}
 use Rattle.model.proofs.ZoneLists.{lists-closed, list-in}
 use Rattle.model.proofs.Start.{pick-length, pick-member}
@@ -26,7 +27,7 @@ use Rattle.model.proofs.Start.{pick-length, pick-member}
 module _ (n : ℕ) (b : List Bound) where
   pub first-some : {c : Matrix} (zs : List Matrix) → firstCommon n b zs ≡ some c → Some (λ z. common n z b ≡ some c) zs
   unfolding firstCommon
-  first-some [] e = absurd (let z : _≡_ {A = ℕ} 0 1 = cc in omega arith)
+  first-some [] e = impossible cc
   first-some {c} (z ∷ zs) e = go (common n z b) refl e (first-some zs)
     where
       go : (o : Option Matrix) → common n z b ≡ o → orElse o (firstCommon n b zs) ≡ some c
@@ -41,7 +42,7 @@ module _ (n : ℕ) (b : List Bound) where
     where
       go : (o : Option Matrix) → common n z b ≡ o → orElse o (firstCommon n b zs) ≡ none
           → (firstCommon n b zs ≡ none → Every (λ y. common n y b ≡ none) zs) → Every (λ y. common n y b ≡ none) (z ∷ zs)
-      go (some d) h e rest = absurd (let q : _≡_ {A = ℕ} 0 1 = cc in omega arith)
+      go (some d) h e rest = impossible cc
       go none h e rest = both h (rest e)
 
 -- ---- the target is met at cycle k exactly if list k has something in common with the start
@@ -60,7 +61,8 @@ module _ (w : Network) (reg : Regular (w .n) (w .times)) (k : ℕ) where
   pub unmet : firstCommon (w .n) (w .start) (lists w k) ≡ none → Met w k → ⊥
   unmet e m =
       let (xs, s) = m in
-      let (z, (cl, (h, mem)), at) = some-at (every-some (lists-closed w k) (every-some (first-none (w .n) (w .start) (lists w k) e) (list-in w reg k xs .1 (s .arrived)))) in
+      let nothing = first-none (w .n) (w .start) (lists w k) e in
+      let (z, (cl, (h, mem)), at) = some-at (every-some (lists-closed w k) (every-some nothing (list-in w reg k xs .1 (s .arrived)))) in
       common-none cl (w .start) h (clocked xs) mem (s .started)
 
 -- ---- what list k settles
@@ -95,19 +97,12 @@ module _ (w : Network) (capacity last : ℕ) (end : Outcome) where
   Before : ℕ → Type 0
   Before k = (i : ℕ) → 1 ≤ i → i < k → settledAt w capacity i ≡ none
 
-  one-more : (k : ℕ) → Before k → settledAt w capacity k ≡ none → Before (suc k)
-  unfolding Before
-  one-more k before e i l u = go (ℕ-discrete i k)
-    where
-      go : Dec (i ≡ k) → settledAt w capacity i ≡ none
-      go (yes p) = rw p e
-      go (no p) = before i l (omega arith)
-
   ending-from : (r k : ℕ) → last ≡ k + r → Before (suc k) → Ending w capacity last end (searchFrom w capacity r (suc k) (lists w k) end)
   unfolding searchFrom lists Before
   ending-from zero k e before = passed (λ i l u. before i l (omega arith))
   ending-from (suc r) k e before =
-      go (settledAt w capacity (suc k)) refl (λ h. ending-from r (suc k) (omega arith) (one-more (suc k) before h))
+      go (settledAt w capacity (suc k)) refl (λ h. ending-from r (suc k) (omega arith) (λ i l u.
+      one-more (λ i. 1 ≤ i → settledAt w capacity i ≡ none) (suc k) (λ i u l. before i l u) (λ l. h) i u l))
     where
       go : (o : Option Outcome) → settledAt w capacity (suc k) ≡ o
           → (settledAt w capacity (suc k) ≡ none → Ending w capacity last end (searchFrom w capacity r (suc (suc k)) (lists w (suc k)) end))
@@ -145,6 +140,6 @@ plan-is w = go (repeatOf w) (onlyDifferences (w .n) (w .start) || onlyDifference
 
     go : (o : Option Repeat) (b : Bool) → repeatOf w ≡ o → (onlyDifferences (w .n) (w .start) || onlyDifferences (w .n) (w .target)) ≡ b
         → Planned w (planWith (w .horizon) o b)
-    go none b e d = whole (λ s. let f = s .first in let z : _≡_ {A = ℕ} 0 1 = cc in omega arith)
-    go (some r) false e d = whole (λ s. let f = s .proviso in let z : _≡_ {A = ℕ} 0 1 = cc in omega arith)
+    go none b e d = whole (λ s. let f = s .first in impossible cc)
+    go (some r) false e d = whole (λ s. let f = s .proviso in impossible cc)
     go (some r) true e d = far r e d (leb (r .q - 1) (w .horizon)) refl

@@ -6,16 +6,12 @@ use mathlib.Core.Path.{_≡_, refl, sym, ap, _∙_}
 use mathlib.Core.Bool.{cond}
 use mathlib.Core.List.{List, [], _∷_, map}
 use lib.ListN.{length, getD}
+use Rattle.ints.proofs.Integers.{impossible}
 use Rattle.model.specs.Network.{Time, blank, secs, time, isTime}
 use Rattle.model.specs.Search.{columns, selections}
-use Rattle.model.specs.Conditions.{Column, Chosen, clock, column, Cols}
+use Rattle.model.specs.Conditions.{Column, Chosen, clock, column, Cols, Selection, no-row, choose}
 use Rattle.model.specs.Lists.{Every, done, both, Some, here, there}
 use Rattle.model.proofs.Listed.{every-map, map-every, flatMap-every, some-map, in-map, in-flatMap}
-
--- a column for each of r rows from row i on
-pub data Selection (n : ℕ) (a : List Time) : ℕ → ℕ → List ℕ → Type 0 where
-  none : {i : ℕ} → Selection n a zero i []
-  next : {r i j : ℕ} {s : List ℕ} → Column n a i j → Selection n a r (suc i) s → Selection n a (suc r) i (j ∷ s)
 
 pub chosen-column : {n : ℕ} {a : List Time} {r s : ℕ} → Chosen n a (suc r) s → Column n a (suc r) s
 chosen-column (column c) = c
@@ -48,36 +44,36 @@ module _ (n : ℕ) (a : List Time) where
     where
       go : Dec (j ≡ s) → (t : Time) → time n a i j ≡ t → (suc j ≤ s → Some (λ t. t ≡ s) (columns n a i r (suc j)))
           → Some (λ t. t ≡ s) (cond (isTime t) (j ∷ columns n a i r (suc j)) (columns n a i r (suc j)))
-      go (yes p) blank e rest = let z : blank ≡ secs (c .value) = sym e ∙ ap (time n a i) p ∙ c .is in let w : _≡_ {A = ℕ} 0 1 = cc in absurd (omega arith)
+      go (yes p) blank e rest = let z : blank ≡ secs (c .value) = sym e ∙ ap (time n a i) p ∙ c .is in impossible cc
       go (yes p) (secs v) e rest = here p
       go (no p) blank e rest = rest (omega arith)
       go (no p) (secs v) e rest = there (rest (omega arith))
 
   pub selections-sound : (r i : ℕ) → Every (Selection n a r i) (selections n a r i)
   unfolding selections
-  selections-sound zero i = both none done
+  selections-sound zero i = both no-row done
   selections-sound (suc r) i =
       flatMap-every (λ j. map (λ s. j ∷ s) (selections n a r (suc i)))
-      (every-map (λ j c. map-every (λ s. j ∷ s) (every-map (λ s q. next c q) (selections-sound r (suc i))))
+      (every-map (λ j c. map-every (λ s. j ∷ s) (every-map (λ s q. choose c q) (selections-sound r (suc i))))
       (columns-sound i n 1 (omega arith) (omega arith)))
 
   pub selections-complete : {r i : ℕ} {s : List ℕ} → Selection n a r i s → Some (λ t. t ≡ s) (selections n a r i)
   unfolding selections
-  selections-complete none = here refl
-  selections-complete (next {r} {i} {j} c q) =
+  selections-complete no-row = here refl
+  selections-complete (choose {r} {i} {j} c q) =
       in-flatMap (λ j. map (λ s. j ∷ s) (selections n a r (suc i)))
       (some-map (λ k e. in-map (λ s. k ∷ s) (some-map (λ s d. cc) (selections-complete q)))
       (columns-complete i n 1 c (c .from-one) (let h = c .to-n in omega arith)))
 
   -- row by row
   pub selection-length : {r i : ℕ} {s : List ℕ} → Selection n a r i s → length s ≡ r
-  selection-length none = refl
-  selection-length (next c q) = ap suc (selection-length q)
+  selection-length no-row = refl
+  selection-length (choose c q) = ap suc (selection-length q)
 
   pub selection-at : {r i : ℕ} {s : List ℕ} → Selection n a r i s → (k : ℕ) → k < r → Column n a (i + k) (getD s k 0)
-  selection-at none k h = absurd (omega arith)
-  selection-at (next {i} c q) zero h = let z : i + 0 ≡ i = omega arith in rw z c
-  selection-at (next {i} c q) (suc k) h = let z : i + suc k ≡ suc i + k = omega arith in rw z (selection-at q k (omega arith))
+  selection-at no-row k h = absurd (omega arith)
+  selection-at (choose {i} c q) zero h = let z : i + 0 ≡ i = omega arith in rw z c
+  selection-at (choose {i} c q) (suc k) h = let z : i + suc k ≡ suc i + k = omega arith in rw z (selection-at q k (omega arith))
 
   pub selection-cols : {r : ℕ} {s : List ℕ} → Selection n a r 1 s → Cols n a (0 ∷ s) (suc r)
   selection-cols q zero h = clock
@@ -86,11 +82,11 @@ module _ (n : ℕ) (a : List Time) where
   -- columns chosen row by row, each with a property Q, make a selection
   pub select : (Q : ℕ → ℕ → Type 0) (r i : ℕ) → ((k : ℕ) → i ≤ k → k < r + i → (j : ℕ) × Column n a k j × Q k j)
       → (s : List ℕ) × Selection n a r i s × ((k : ℕ) → k < r → Q (i + k) (getD s k 0))
-  select Q zero i c = ([], none, λ k h. absurd (omega arith))
+  select Q zero i c = ([], no-row, λ k h. absurd (omega arith))
   select Q (suc r) i c =
       let (j, col, q) = c i (omega arith) (omega arith) in
       let (s, sel, qs) = select Q r (suc i) (λ k l h. c k (omega arith) (omega arith)) in
-      (j ∷ s, next col sel, go j s q qs)
+      (j ∷ s, choose col sel, go j s q qs)
     where
       go : (j : ℕ) (s : List ℕ) → Q i j → ((k : ℕ) → k < r → Q (suc i + k) (getD s k 0)) → (k : ℕ) → k < suc r → Q (i + k) (getD (j ∷ s) k 0)
       go j s q qs zero h = let e : i + 0 ≡ i = omega arith in rw e q

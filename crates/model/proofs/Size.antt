@@ -16,11 +16,12 @@ use Rattle.model.specs.Bound.{Bound, none, most, any, Holds, plus}
 use Rattle.model.specs.Matrix.{Matrix, entry, Constraint, tighten, Member}
 use Rattle.model.specs.Search.{leastOr}
 use Rattle.model.specs.Lists.{Every, done, both}
-use Rattle.model.specs.Conditions.{Closed, Fits, Small, free, sized}
+use Rattle.model.specs.Conditions.{Closed, Fits, Small, free, sized, AllSmall, Bounded}
 use Rattle.model.proofs.Bounds.{bounds}
 use Rattle.model.proofs.Attained.{meets}
-use Rattle.model.proofs.Zones.{ClosedZone, closed, Keeps, tighten-closed, tighten-in}
-use Rattle.model.proofs.Gap.{gap}
+use Rattle.model.proofs.Zones.{Keeps, tighten-closed, tighten-in}
+use Rattle.model.proofs.Patterns.{closed-some}
+use Rattle.model.proofs.Gap.{interval}
 
 -- the size of a finite bound, as a rule for omega
 pub small-size : {B : ℕ} {z : ℤ} → Small B (most z) → natAbs z ≤ B
@@ -73,7 +74,7 @@ separate : (m B : ℕ) (x : ℕ → ℤ) (p q : ℕ) → p < suc m → q < suc m
 separate m B x p q hp hq far =
     let after : ℕ → ℕ = λ t. up (x t -ℤ x p) in
     let start : after p ≡ 0 = omega (ints, sub-ud (x p) (x p), abs-ud (x p -ℤ x p)) in
-    let (c, l, wide) = gap m B after p q hp hq start far in (
+    let (c, l, wide) = interval m B after p q hp hq start far in (
       λ t. leb (after t) c,
       λ s t hs ht es et. more-apart (x s) (x t) (x p) c B (leb-true _ _ es) (wide t ht (leb-false _ _ et)),
       le-leb (after p) c (omega arith),
@@ -101,12 +102,12 @@ module _ {n B : ℕ} {x : ℕ → ℤ} {early : ℕ → Bool} {e : ℤ} (apart :
       go false false es et = h
 
   -- a list of them
-  moved-keeps : {ks : List Constraint} → Every (Fits n) ks → Every (λ k. Small B (k .limit)) ks → Every (Keeps x) ks
+  moved-keeps : {ks : List Constraint} → Every (Fits n) ks → AllSmall B ks → Every (Keeps x) ks
       → Every (Keeps (moved x early e)) ks
   moved-keeps done done done = done
   moved-keeps (both f fs) (both s ss) (both h hs) = both (moved-holds (f .row-fits) (f .col-fits) s h) (moved-keeps fs ss hs)
 
-module _ {m B : ℕ} {ks : List Constraint} (fits : Every (Fits (suc m)) ks) (small : Every (λ k. Small B (k .limit)) ks)
+module _ {m B : ℕ} {ks : List Constraint} (fits : Every (Fits (suc m)) ks) (small : AllSmall B ks)
     (x : ℕ → ℤ) (keeps : Every (Keeps x) ks) where
   -- of two times that are more than m * B apart, the earlier can be moved by e while the later stays
   move : (p q : ℕ) → p < suc m → q < suc m → m * B < up (x q -ℤ x p) → (e : ℤ) → e ≤ℤ pos 1
@@ -131,17 +132,13 @@ module _ {m B : ℕ} {ks : List Constraint} (fits : Every (Fits (suc m)) ks) (sm
           let (y, k, ei, ej) = move i j hi hj (omega (ints, sub-ud (x i) (x j), sub-ud (x j) (x i), abs-ud (x i -ℤ x j))) (pos 1) (omega ints) in
           omega (bounds, greatest y k, sub-ud (x i) (x j), sub-ud (y i) (y j), add-ud (x i) (pos 1), pos-ud 1)
 
--- a closed zone that is a matrix is a closed matrix
-is-closed : {m : ℕ} {d : Matrix} → ClosedZone m (some d) → Closed m d
-is-closed (closed cl) = cl
-
 -- each finite bound of the tightest matrix is the greatest difference of its two times
-pub tightest-small : (m B : ℕ) (ks : List Constraint) (d : Matrix) → Every (Fits (suc m)) ks → Every (λ k. Small B (k .limit)) ks
-    → tighten (suc m) ks ≡ some d → (i j : ℕ) → i < suc m → j < suc m → Small (m * B) (entry (suc m) d i j)
+pub tightest-small : (m B : ℕ) (ks : List Constraint) (d : Matrix) → Every (Fits (suc m)) ks → AllSmall B ks
+    → tighten (suc m) ks ≡ some d → Bounded (suc m) (m * B) d
 tightest-small m B ks d fits small tightest i j hi hj = go (entry (suc m) d i j) refl
   where
     cl : Closed (suc m) d
-    cl = is-closed (rw tightest at (tighten-closed (suc m) fits))
+    cl = closed-some (rw tightest at (tighten-closed (suc m) fits))
 
     members : (x : ℕ → ℤ) → Member (suc m) d x ↔ Every (Keeps x) ks
     members x = rw tightest at (tighten-in (suc m) fits x)

@@ -6,7 +6,6 @@ use native.Mathlib.Decide.{ℕ-discrete}
 use native.Mathlib.Nat.{mul-le-mul-right}
 use mathlib.Core.Path.{_≡_, refl, sym, ap, ap₂, _∙_, fun-ext}
 use mathlib.Core.List.{List, [], _∷_, _++_}
-use mathlib.Core.Option.{some}
 use lib.IntN.{ℤ, pos, negℤ, _-ℤ_, natAbs}
 use lib.Signed.{_≤ℤ_}
 use lib.ListN.{length, getD, length-append, length-drop, List·getD-append}
@@ -15,15 +14,14 @@ use Rattle.ints.proofs.Integers.{ints, add-ud, sub-ud, neg-ud}
 use Rattle.model.specs.Lists.{tabulate, Every}
 use Rattle.model.specs.Bound as B
 use Rattle.model.specs.Bound.{Bound, most, any, Holds, plus, tighter}
-use Rattle.model.specs.Matrix.{Matrix, entry, Member}
-use Rattle.model.specs.Pattern.{InPattern}
+use Rattle.model.specs.Matrix.{Matrix, Member}
 use Rattle.model.specs.Network.{clocked}
-use Rattle.model.specs.Search.{common, tightest, above, below, leastOr, choices, pick}
-use Rattle.model.specs.Conditions.{Closed, latest, earliest, Small, free}
+use Rattle.model.specs.Search.{tightest, above, below, leastOr, choices, pick}
+use Rattle.model.specs.Conditions.{Closed, howLate, howEarly, Small, free, Bounded}
 use Rattle.model.proofs.Bounds.{bounds, leB-refl, leB-trans, holds-sum, between, plus-none, tighter-left, tighter-right}
-use Rattle.model.proofs.Listed.{every-getD}
+use Rattle.model.proofs.Listed.{one-more, every-getD}
+use Rattle.model.proofs.Tabulated.{tabulate-ext}
 use Rattle.model.proofs.Attained.{tightestOf-either, Upto, Possible, next-time, upto-next, takes-next}
-use Rattle.model.proofs.Patterns.{common-some}
 use Rattle.model.proofs.Size.{small-mono, term-small, neg-small, least-small}
 
 -- where any time is between two bounds, the one taken is
@@ -33,12 +31,6 @@ taken-between (most b) u v hu hw = (leB-trans (omega (bounds, neg-ud b, neg-ud v
 taken-between B.Bound.none (most c) v hu hw = (leB-refl (most c), any)
 taken-between B.Bound.none B.Bound.none v hu hw = (any, any)
 
--- functions equal below k + n make equal lists
-tabulate-same : {X : Type 0} (n k : ℕ) (f g : ℕ → X) → ((i : ℕ) → i < k + n → f i ≡ g i) → tabulate n k f ≡ tabulate n k g
-unfolding tabulate
-tabulate-same zero k f g same = refl
-tabulate-same (suc n) k f g same = ap₂ _∷_ (same k (omega arith)) (tabulate-same n (suc k) f g (λ i h. same i (omega arith)))
-
 -- the times of a list
 abbrev at : List ℤ → ℕ → ℤ
 at xs s = getD xs s (pos 0)
@@ -46,13 +38,13 @@ at xs s = getD xs s (pos 0)
 module _ (m : ℕ) (z : Matrix) where
   -- the time that is taken for t, given x(0), .., x(t - 1)
   abbrev taken : ℕ → (ℕ → ℤ) → ℤ
-  taken t x = leastOr (earliest m z t x) (latest m z t x)
+  taken t x = leastOr (howEarly m z t x) (howLate m z t x)
 
   -- it depends on these alone
   taken-same : (t : ℕ) (x y : ℕ → ℤ) → ((s : ℕ) → s < t → x s ≡ y s) → taken t x ≡ taken t y
   taken-same t x y same =
       ap₂ (λ b c. leastOr (tightest b) (tightest c))
-      (tabulate-same t 0 _ _ (λ s h. rw (same s (omega arith)))) (tabulate-same t 0 _ _ (λ s h. rw (same s (omega arith))))
+      (tabulate-ext t 0 _ _ (λ s l u. rw (same s (omega arith)))) (tabulate-ext t 0 _ _ (λ s l u. rw (same s (omega arith))))
 
   -- r times are chosen
   length-choices : (r : ℕ) (xs : List ℤ) → length (choices m z r xs) ≡ r + length xs
@@ -113,7 +105,7 @@ module _ (n : ℕ) (z : Matrix) where
   picked-taken t h = rw picked-choices (choices-taken (suc n) z (suc n) [] t (omega arith) (omega arith))
 
   -- where no finite bound is larger than S, time t is at most t * S in size
-  module _ {S : ℕ} (small : (i j : ℕ) → i < suc n → j < suc n → Small S (entry (suc n) z i j)) where
+  module _ {S : ℕ} (small : Bounded (suc n) S z) where
     one-small : (t : ℕ) → t < suc n → ((s : ℕ) → s < t → natAbs (picked s) ≤ s * S) → natAbs (picked t) ≤ t * S
     one-small t h before = rw (picked-taken t h) (least-small
         (tightestOf-either (Small (t * S)) t _ free (λ s l. term s l (negℤ (picked s)) (small s t (omega arith) h) (neg-small (picked s) (before s l))))
@@ -123,11 +115,9 @@ module _ (n : ℕ) (z : Matrix) where
         term s l v d k = small-mono (mul-le-mul-right S l) (term-small s v d k)
 
     picked-small : (t : ℕ) → t ≤ suc n → (s : ℕ) → s < t → natAbs (picked s) ≤ s * S
-    picked-small zero h s l = absurd (omega arith)
-    picked-small (suc t) h s l = elim (ℕ-discrete s t) [
-      | yes e ↦ rw e (one-small t h (picked-small t (omega arith)))
-      | no ne ↦ picked-small t (omega arith) s (omega arith)
-    ]
+    picked-small zero h = λ s l. absurd (omega arith)
+    picked-small (suc t) h =
+        let before = picked-small t (omega arith) in one-more (λ s. natAbs (picked s) ≤ s * S) t before (one-small t h before)
 
     pub pick-small : Every (λ x. natAbs x ≤ n * S) (pick n z)
     unfolding clocked
@@ -166,17 +156,13 @@ module _ {n : ℕ} {z : Matrix} (cl : Closed (suc n) z) where
   pub pick-member : Member (suc n) z (clocked (pick n z))
   pick-member = pick-upto (suc n) (omega arith)
 
-  -- so the time picked for a departure is one of those that its rule is about
-  pub pick-agrees : (i : ℕ) → Agrees n z i (clocked (pick n z))
-  pick-agrees i = record { member = pick-member; chosen = λ j l. refl }
-
   module _ (i : ℕ) (h : i < n) where
     -- how early departure i + 1 may be, negated, and how late
     abbrev early : Bound
-    early = earliest (suc n) z (suc i) (picked n z)
+    early = howEarly (suc n) z (suc i) (picked n z)
 
     abbrev late : Bound
-    late = latest (suc n) z (suc i) (picked n z)
+    late = howLate (suc n) z (suc i) (picked n z)
 
     -- a member that agrees has a possible time for departure i + 1, and each possible time is that of one
     possible : (x : ℕ → ℤ) → Agrees n z i x → Possible (suc n) z (suc i) (picked n z) (x (suc i))
@@ -208,8 +194,3 @@ module _ {n : ℕ} {z : Matrix} (cl : Closed (suc n) z) where
     -- each departure is picked by the rule
     pub pick-rule : Picked n z i (clocked (pick n z) (suc i))
     pick-rule = rw (picked-taken n z (suc i) (omega arith)) (rule early late refl refl)
-
--- the start picked in what a zone has in common with a pattern is in both
-pub pick-common : {n : ℕ} {z c : Matrix} {b : List Bound} → Closed (suc n) z → common n z b ≡ some c
-    → Member (suc n) z (clocked (pick n c)) × InPattern n b (clocked (pick n c))
-pick-common {b} cl e = let (cl′, same) = common-some cl b e in same _ .0 (pick-member cl′)

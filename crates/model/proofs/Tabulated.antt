@@ -1,9 +1,9 @@
 -- Further laws of `tabulate`: when two such lists are equal, and what a mapped function,
--- a later start and one more element make of one.
-use Prim.Native.Nat.{ℕ, zero, suc, _+_, _≤_, _<_}
+-- a later start and one more element make of one; what a loop over one has still to go through.
+use Prim.Native.Nat.{ℕ, zero, suc, _+_, _-_, _≤_, _<_}
 use native.Mathlib.Omega.{arith}
 use mathlib.Core.Path.{_≡_, refl, ap, ap₂}
-use mathlib.Core.List.{[], _∷_, _++_, map}
+use mathlib.Core.List.{List, [], _∷_, _++_, map, foldl}
 use Rattle.model.specs.Lists.{tabulate}
 
 module _ {ℓ} {X : Type ℓ} where
@@ -31,3 +31,31 @@ module _ {ℓ} {X : Type ℓ} where
   unfolding tabulate
   tabulate-snoc zero k f = ap (λ (i : ℕ). f i ∷ []) (omega arith)
   tabulate-snoc (suc n) k f = let e : k + suc n ≡ suc k + n = omega arith in rw e (ap (_∷_ (f k)) (tabulate-snoc n (suc k) f))
+
+-- ---- the elements from place j up to the end e
+abbrev pub from {ℓ} : {X : Type ℓ} → (ℕ → X) → ℕ → ℕ → List X
+from f e j = tabulate (e - j) j f
+
+module _ {ℓ} {X : Type ℓ} (f : ℕ → X) where
+  -- the whole list
+  pub from-first : (n k e : ℕ) → e ≡ n + k → tabulate n k f ≡ from f e k
+  from-first n k e h = ap (λ (r : ℕ). tabulate r k f) (omega arith)
+
+  module _ (e j : ℕ) where
+    pub from-next : j < e → from f e j ≡ f j ∷ from f e (j + 1)
+    unfolding tabulate
+    from-next h =
+        let a : e - j ≡ suc (e - (j + 1)) = omega arith in
+        let b : j + 1 ≡ suc j = omega arith in
+        rw (a, tabulate, b)
+
+    pub from-end : e ≤ j → from f e j ≡ []
+    unfolding tabulate
+    from-end h = let a : e - j ≡ 0 = omega arith in rw a
+
+    -- what a loop makes of them, one by one
+    pub foldl-next {κ} : {Y : Type κ} (g : Y → X → Y) (y : Y) → j < e → foldl g y (from f e j) ≡ foldl g (g y (f j)) (from f e (j + 1))
+    foldl-next g y h = ap (foldl g y) (from-next h)
+
+    pub foldl-end {κ} : {Y : Type κ} (g : Y → X → Y) (y : Y) → e ≤ j → foldl g y (from f e j) ≡ y
+    foldl-end g y h = ap (foldl g y) (from-end h)

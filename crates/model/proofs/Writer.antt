@@ -1,7 +1,6 @@
 -- What request [1] asks of the writer: reading its bytes restores the case up to what is ignored, and writing a case that was read reproduces its bytes.
 use Prim.Native.Nat.{ℕ, suc, _+_, _*_, _≤_, _<_}
 use native.Mathlib.Omega.{arith}
-use native.Mathlib.Nat.{mul-le-mul}
 use mathlib.Core.Path.{_≡_, refl, sym, ap₂, _∙_}
 use mathlib.Core.List.{List, [], _∷_, flatMap}
 use mathlib.Core.Bool.{true, false, cond}
@@ -9,6 +8,8 @@ use mathlib.Core.Option.{Option, none, some}
 use lib.IntN.{ℤ}
 use lib.ListN.{length, getD, take, length-append, length-take}
 use lib.Seq.{take-at}
+use Rattle.ints.proofs.Integers.{impossible}
+use Rattle.model.specs.Sizes.{tableSize, patternSize, mostBounds, mostBytes}
 use Rattle.model.specs.declared.Case.{Case}
 use Rattle.model.specs.declared.Fault.{Fault}
 use Rattle.model.specs.declared.Written.the-variants as written
@@ -17,18 +18,20 @@ use Rattle.model.specs.declared.Answer.{Answer}
 use Rattle.model.specs.Lists.{Every, done, both}
 use Rattle.model.specs.Network.{Network}
 use Rattle.model.specs.Search.{outcome}
-use Rattle.model.specs.Faults.{timeOf, boundOf, patternSize, network, outside, tableFault, caseFault, callFault}
+use Rattle.model.specs.Conditions.{Departures}
+use Rattle.model.specs.Faults.{timeOf, boundOf, network, outside, tableFault, caseFault, callFault}
 use Rattle.model.specs.Packed.{got, parse}
 use Rattle.model.specs.Answers.{refusal, answered, answer, answerPacked, workspaceAfter, workspaceAfterPacked, unpacked}
-use Rattle.model.specs.Writing.{fieldBits, bytesOf, Kind, timeKind, boundKind, entryBits, entriesBits}
+use Rattle.model.specs.Writing.{fieldBits, bytesOf, Kind, timeKind, boundKind, entryBits, entriesBits, Whole}
 use Rattle.model.specs.Writing.{allBounds, caseBits, packedBytes, tidied, roomFor, writeFault, told, outputAfter}
 use Rattle.model.proofs.Listed.{every-append, every-tabulate, every-all, flatMap-every, at-getD}
+use Rattle.model.proofs.Places.{table-fits, pattern-fits}
 use Rattle.model.proofs.Limits.{orElse-none, no-fault}
 use Rattle.model.proofs.Digits.{num-below}
 use Rattle.model.proofs.Parsed.{given, parsed, parsed-call}
 use Rattle.model.proofs.Spelled.{length-field}
 use Rattle.model.proofs.Bytes.{length-bytes, bytes-spell, bytes-of}
-use Rattle.model.proofs.RoundTrip.{padded-same, Whole, parse-of, parse-spells}
+use Rattle.model.proofs.RoundTrip.{padded-same, parse-of, parse-spells}
 
 -- ---- the bits: each is 0 or 1, and they are few
 field-small : (w v : ℕ) → Every (λ b. b ≤ 1) (fieldBits w v)
@@ -65,21 +68,20 @@ module _ (c : Case) where
   unfolding packedBytes bytesOf
   bytes-small = every-tabulate _ 0 _ (λ i l. num-below (λ q. getD (caseBits c) q 0) (at-getD {P = λ b. b ≤ 1} 0 (omega arith) case-small) (8 * (0 + i)) 8)
 
-  -- at most 426 of them
-  pub longest : caseFault c ≡ none → length (packedBytes c) ≤ 426
+  -- at most mostBytes of them
+  pub longest : caseFault c ≡ none → length (packedBytes c) ≤ mostBytes
   unfolding packedBytes caseBits caseFault tableFault outside
   longest h =
       let facts = simp no-fault at h in
       let n = c .n in
-      let few : n ≤ 7 = omega arith in
-      let more : n + 1 ≤ 8 = omega arith in
+      let departures : Departures n = omega arith in
       simp (length-bytes, length-append, length-field) (omega (
         arith,
-        mul-le-mul few few,
-        mul-le-mul few more,
-        entries-short timeKind (take (n * n) (c .times)),
+        table-fits departures,
+        pattern-fits departures,
+        entries-short timeKind (take (tableSize n) (c .times)),
         entries-short boundKind (allBounds c),
-        length-take (n * n) (c .times),
+        length-take (tableSize n) (c .times),
         length-take (patternSize n) (c .start),
         length-take (patternSize n) (c .target),
         length-append (take (patternSize n) (c .start)) (take (patternSize n) (c .target)),
@@ -105,9 +107,9 @@ one-encoding s t small little c q r e d = sym (reproduces s small c q e) ∙ rep
 network-tidied : (c : Case) → Whole c → network (tidied c) ≡ network c
 unfolding network tidied timeOf boundOf
 network-tidied c whole = rw (
-  padded-same timeKind timeOf (λ e h. rw h) 49 (c .n * c .n) (c .times) (whole .times),
-  padded-same boundKind boundOf (λ e h. rw h) 56 (patternSize (c .n)) (c .start) (whole .start),
-  padded-same boundKind boundOf (λ e h. rw h) 56 (patternSize (c .n)) (c .target) (whole .target),
+  padded-same timeKind timeOf (λ e h. rw h) mostBounds (tableSize (c .n)) (c .times) (whole .times),
+  padded-same boundKind boundOf (λ e h. rw h) mostBounds (patternSize (c .n)) (c .start) (whole .start),
+  padded-same boundKind boundOf (λ e h. rw h) mostBounds (patternSize (c .n)) (c .target) (whole .target),
 )
 
 module _ (c : Case) (h : caseFault c ≡ none) (whole : Whole c) where
@@ -134,7 +136,7 @@ module _ (c : Case) (h : caseFault c ≡ none) (whole : Whole c) where
   written-workspace capacity work = rw (restores, workspaceAfterPacked, call-tidied capacity (length work))
 
 -- where a writer says how many bytes it put into the output, a reader makes of these bytes the case without what is ignored
-pub read-back : (c : Case) → Whole c → (out : List ℕ) (count : ℕ)
+pub read-back : (c : Case) → (caseFault c ≡ none → Whole c) → (out : List ℕ) (count : ℕ)
     → let fault = writeFault c (length out) in
     told fault (packedBytes c) ≡ written.Bytes count
     → unpacked (parse (take count (outputAfter fault (packedBytes c) out))) ≡ record { judged = judged.Accepted; case = tidied c }
@@ -146,5 +148,5 @@ read-back c whole out count = go (writeFault c (length out)) refl
     go none e t =
         let all : length (packedBytes c) ≡ count = cc in
         let sound = (simp orElse-none at e) .0 in
-        rw (take-at (packedBytes c) _ count all, restores c sound whole)
-    go (some f) e t = let z : _≡_ {A = ℕ} 0 1 = cc in absurd (omega arith)
+        rw (take-at (packedBytes c) _ count all, restores c sound (whole sound))
+    go (some f) e t = impossible cc

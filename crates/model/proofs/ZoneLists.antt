@@ -1,4 +1,4 @@
--- List k holds exactly the times whose k-step image is in the target. Its zones are closed, and no two are equal.
+-- List k holds exactly the times whose k-step image is in the target. Its zones are closed.
 use Prim.Native.Nat.{ℕ, zero, suc, _+_, _≤_, _<_}
 use native.Mathlib.Omega.{arith}
 use mathlib.Core.Path.{_≡_, refl, sym, ap, _∙_}
@@ -7,21 +7,22 @@ use mathlib.Core.List.{List, [], _∷_, map, flatMap}
 use mathlib.Core.Option.{Option}
 use lib.IntN.{ℤ}
 use lib.ListN.{getD}
+use Rattle.ints.proofs.Integers.{impossible}
 use Rattle.model.specs.Lists.{tabulate, Every, done, both, Some, here, there}
 use Rattle.model.specs.Matrix.{Matrix, tighten, Member}
 use Rattle.model.specs.Pattern.{patternConstraints, InPattern}
 use Rattle.model.specs.Network.{Time, blank, secs, Network, time, latest, after, clocked, next, cycle, cycles}
 use Rattle.model.specs.Search.{selections, preimage, previous, lists}
-use Rattle.model.specs.Conditions.{Closed, Column, Regular, image}
+use Rattle.model.specs.Conditions.{Closed, Column, Regular, image, Selection}
 use Rattle.model.proofs.MaxPlus.{latest-attained, latestOf-upper}
 use Rattle.model.proofs.Listed.{every-map, every-all, map-every, flatMap-every, some-map, every-some, some-at, in-map, of-map, in-flatMap, of-flatMap}
 use Rattle.model.proofs.Entries.{length-tabulate, getD-tabulate}
 use Rattle.model.proofs.Zones.{Is}
 use Rattle.model.proofs.Cycles.{next-is, clocked-cycle, cycles-add}
 use Rattle.model.proofs.Patterns.{closed-some, pattern-closed, pattern-in}
-use Rattle.model.proofs.Selections.{Selection, selections-sound, selections-complete, select}
+use Rattle.model.proofs.Selections.{selections-sound, selections-complete, select}
 use Rattle.model.proofs.Preimage.{Attains, preimage-closed, preimage-in}
-use Rattle.model.proofs.Kept.{Distinct, alone, kept-of, of-kept, kept-every, kept-distinct}
+use Rattle.model.proofs.Kept.{kept-of, of-kept, kept-every}
 
 -- membership looks at x(0) to x(m - 1) alone
 pub member-at : (m : ℕ) (d : Matrix) {x y : ℕ → ℤ} → ((i : ℕ) → i < m → x i ≡ y i) → Member m d x → Member m d y
@@ -36,7 +37,7 @@ module _ (n : ℕ) (a : List Time) where
   -- a sum that is a time is made of times
   sum-time : (u v : ℤ) (t : Time) → after (secs u) t ≡ secs v → (w : ℤ) × (t ≡ secs w)
   unfolding after
-  sum-time u v blank e = absurd (let z : _≡_ {A = ℕ} 0 1 = cc in omega arith)
+  sum-time u v blank e = impossible cc
   sum-time u v (secs w) e = (w, refl)
 
   module _ (reg : Regular n a) where
@@ -99,15 +100,10 @@ module _ (w : Network) where
       (every-map (λ sel q z e. closed-some (rw e at (preimage-closed (w .n) (w .times) d sel q))) (selections-sound (w .n) (w .times) (w .n) 1)))
       (lists w k)))
 
-  -- no two zones of a list are equal
-  pub lists-distinct : (k : ℕ) → Distinct (lists w k)
-  unfolding lists previous
-  lists-distinct zero = kept-distinct [] (tighten (suc (w .n)) (patternConstraints (w .n) (w .target)) ∷ []) alone
-  lists-distinct (suc k) = kept-distinct [] (flatMap (λ d. map (preimage (w .n) (w .times) d) (selections (w .n) (w .times) (w .n) 1)) (lists w k)) alone
-
   -- the times of list k are those whose k-step image is in the target
   module _ (reg : Regular (w .n) (w .times)) where
-    pub list-in : (k : ℕ) (xs : List ℤ) → Some (λ z. Member (suc (w .n)) z (clocked xs)) (lists w k) ↔ InPattern (w .n) (w .target) (clocked (cycles (w .n) (w .times) k xs))
+    pub list-in : (k : ℕ) (xs : List ℤ)
+        → Some (λ z. Member (suc (w .n)) z (clocked xs)) (lists w k) ↔ InPattern (w .n) (w .target) (clocked (cycles (w .n) (w .times) k xs))
     unfolding lists cycles
     list-in zero xs =
         let zone = pattern-in (w .n) (w .target) (clocked xs) in

@@ -17,7 +17,7 @@ use Rattle.model.specs.Pattern.{patternConstraints}
 use Rattle.model.specs.Network.{Time, secs, Network, time, after, clocked, next}
 use Rattle.model.specs.Search.{selections, preimage, keep, previous, lists}
 use Rattle.model.specs.Zones.{Greatest, greatest, no-greatest, Zone, Members, InTarget, Selected, Kept, no-more, empty, again, new, sources, ListsOfZones}
-use Rattle.model.specs.Conditions.{Regular, Closed, image}
+use Rattle.model.specs.Conditions.{Regular, Closed, image, Selection}
 use Rattle.model.proofs.Bounds.{bounds}
 use Rattle.model.proofs.MaxPlus.{latestOf-upper}
 use Rattle.model.proofs.Listed.{every-map, map-every, flatMap-every, some-map}
@@ -27,8 +27,8 @@ use Rattle.model.proofs.Zones as Z
 use Rattle.model.proofs.Zones.{ClosedZone, closed, In}
 use Rattle.model.proofs.Cycles.{next-is}
 use Rattle.model.proofs.Patterns.{pattern-closed, pattern-in}
-use Rattle.model.proofs.Selections.{Selection, chosen-column, selections-sound}
-use Rattle.model.proofs.Preimage.{Attains, cols, column-sum, image-attained, preimage-closed, preimage-in}
+use Rattle.model.proofs.Selections.{selections-sound}
+use Rattle.model.proofs.Preimage.{Attains, column-at, column-sum, image-attained, preimage-closed, preimage-in}
 use Rattle.model.proofs.Kept as K
 use Rattle.model.proofs.Kept.{keep-is}
 use Rattle.model.proofs.ZoneLists.{member-at, image-cycle, lists-closed}
@@ -47,9 +47,9 @@ greatest-once (no-greatest f) (no-greatest g) = refl
 pub zone-once : {n : ℕ} {P : List ℤ → Type 0} {y z : Matrix} → Zone n P y → Zone n P z → y ≡ z
 zone-once {n} {y} {z} a b = ext-entry (suc n) y z (a .size) (b .size) (λ i j hi hj. greatest-once (a .tightest i j hi hj) (b .tightest i j hi hj))
 
-one-more : (v u : ℤ) → (v +ℤ pos 1) ≤ℤ u → v <ℤ u
+above-one : (v u : ℤ) → (v +ℤ pos 1) ≤ℤ u → v <ℤ u
 unfolding up dn
-one-more v u h = omega (ints, add-ud v (pos 1))
+above-one v u h = omega (ints, add-ud v (pos 1))
 
 -- ---- a closed matrix, as a set of times with x(0) = 0
 -- the times of a member, moved so that x(0) is 0
@@ -90,7 +90,7 @@ module _ {n : ℕ} {P : List ℤ → Type 0} {z : Matrix} (cl : Closed (suc n) z
           (λ u p. let (xs, q, at) = p in let h = rw e at (all xs .0 q .1 i j hi hj) in rw at (omega bounds))
       go B.Bound.none e = no-greatest (λ v p.
           let (x, mem, le) = passes (suc n) z cl i j hi hj e (v +ℤ pos 1) in
-          (x i -ℤ x j, taken x i j hi hj mem, one-more v (x i -ℤ x j) le))
+          (x i -ℤ x j, taken x i j hi hj mem, above-one v (x i -ℤ x j) le))
 
   pub closed-zone : Zone n P z
   unfolding apart
@@ -113,11 +113,11 @@ is-set Z.ClosedZone.empty same = no-times (λ xs p. same xs .0 p .1)
 is-set (closed cl) same = zone (closed-zone cl same)
 
 module _ {X : Type 0} (n : ℕ) (set : X → List ℤ → Type 0) (matrix : X → Option Matrix) where
-  kept-next : {x : X} {rest : List X} {kept kept′ all : List Matrix} {o : Option Matrix} → IsSet n (set x) o → K.Keeps kept o kept′
+  kept-next : {x : X} {rest : List X} {kept kept′ all : List Matrix} {o : Option Matrix} → IsSet n (set x) o → K.Put kept o kept′
       → Kept n set kept′ rest all → Kept n set kept (x ∷ rest) all
-  kept-next (no-times h) K.Keeps.empty rest = empty h rest
-  kept-next {x} (zone z) (K.Keeps.there-already s) rest = again {x = x} (some-map (λ y e. rw e z) s) rest
-  kept-next (zone z) (K.Keeps.new others) rest = new z (every-map (λ y differs same. differs (zone-once same z)) others) rest
+  kept-next (no-times h) K.Put.empty rest = empty h rest
+  kept-next {x} (zone z) (K.Put.there-already s) rest = again {x = x} (some-map (λ y e. rw e z) s) rest
+  kept-next (zone z) (K.Put.new others) rest = new z (every-map (λ y differs same. differs (zone-once same z)) others) rest
 
   kept-sets : (kept : List Matrix) {xs : List X} → Every (λ x. IsSet n (set x) (matrix x)) xs → Kept n set kept xs (foldl keep kept (map matrix xs))
   kept-sets kept done = no-more
@@ -147,7 +147,7 @@ module _ (w : Network) (reg : Regular (w .n) (w .times)) where
       largest at zero l u = absurd (omega arith)
       largest at (suc r) l u =
           let e : suc r - 1 ≡ r = omega arith in
-          let c = chosen-column (cols n a d sel q (suc r) (omega arith)) in
+          let c = column-at n a sel q r (omega arith) in
           rw e (column-sum n a (clocked xs) c ∙ ap secs (sym (image-attained n a (clocked xs) c (at r (omega arith)))))
 
       most-of : Largest → Most

@@ -15,6 +15,7 @@ use Rattle.model.specs.declared.Answer.{Answer}
 use Rattle.model.specs.declared.Judged.the-variants as judged
 use Rattle.model.specs.declared.Unpacked.{Unpacked}
 use Rattle.model.specs.declared.Run.{Run}
+use Rattle.model.specs.Sizes.{mostDepartures}
 use Rattle.model.specs.Lists.{padded}
 use Rattle.model.specs.Network.{cycles}
 use Rattle.model.specs.Search.{Outcome, reached, clear, never, tableFull, boundTooLarge, outcome}
@@ -28,8 +29,8 @@ abbrev pub cycleNumber : ℕ → Cycle
 cycleNumber k = record { 0 = k }
 
 -- times of departures 1 to n, and 0 in the places beyond
-abbrev pub sevenTimes : List ℤ → List Seconds
-sevenTimes xs = padded (seconds (pos 0)) 7 (map seconds xs)
+abbrev pub allTimes : List ℤ → List Seconds
+allTimes xs = padded (seconds (pos 0)) mostDepartures (map seconds xs)
 
 -- a verdict as numbers: which it is, document 01's number of the fault, 0 where there is none, and the number that goes with it: the
 -- cycle k, the horizon N, 0 for never, what the fault returns
@@ -45,12 +46,12 @@ numbersOf (verdict.Clear k) = record { kind = 2; fault = 0; value = k .0 }
 numbersOf verdict.Never = record { kind = 3; fault = 0; value = 0 }
 
 abbrev pub refusal : Fault → Answer
-refusal f = record { verdict = verdict.Refused f; start = sevenTimes [] }
+refusal f = record { verdict = verdict.Refused f; start = allTimes [] }
 
 abbrev pub answered : Outcome → Answer
-answered (reached k xs) = record { verdict = verdict.Reached (cycleNumber k); start = sevenTimes xs }
-answered (clear k) = record { verdict = verdict.Clear (cycleNumber k); start = sevenTimes [] }
-answered never = record { verdict = verdict.Never; start = sevenTimes [] }
+answered (reached k xs) = record { verdict = verdict.Reached (cycleNumber k); start = allTimes xs }
+answered (clear k) = record { verdict = verdict.Clear (cycleNumber k); start = allTimes [] }
+answered never = record { verdict = verdict.Never; start = allTimes [] }
 answered (tableFull k) = refusal (fault.TableFull (cycleNumber k))
 answered (boundTooLarge k) = refusal (fault.BoundTooLarge (cycleNumber k))
 
@@ -82,6 +83,6 @@ unpacked (refused f) = record { judged = judged.Refused f; case = caseOf 0 0 [] 
 unfoldable pub run : Case → List Seconds → ℕ → Run
 run c xs k =
     elim (runFault c xs k) [
-      | some f ↦ record { judged = judged.Refused f; times = sevenTimes [] }
-      | none ↦ record { judged = judged.Accepted; times = sevenTimes (cycles (c .n) (network c .times) k (map (λ x. x .0) (take (c .n) xs))) }
+      | some f ↦ record { judged = judged.Refused f; times = allTimes [] }
+      | none ↦ record { judged = judged.Accepted; times = allTimes (cycles (c .n) (network c .times) k (map (λ x. x .0) (take (c .n) xs))) }
     ]

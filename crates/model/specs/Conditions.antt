@@ -1,18 +1,25 @@
 -- Conditions that the contracts inside the library name. The demands do not rest on them.
 use Prim.Native.Nat.{ℕ, zero, suc, _*_, _≤_, _<_}
 use mathlib.Core.Path.{_≡_}
-use mathlib.Core.List.{List}
-use mathlib.Core.Option.{some}
+use mathlib.Core.List.{List, [], _∷_}
+use mathlib.Core.Option.{Option, some}
 use mathlib.Core.Bool.{false}
 use lib.IntN.{ℤ, pos, negℤ, natAbs, _+ℤ_}
 use lib.ListN.{length, getD}
 use Rattle.model.specs.declared.Slot.{Slot}
+use Rattle.model.specs.Sizes.{mostDepartures, mostCycles, timeLimit, boundLimit}
 use Rattle.model.specs.Lists.{tabulate, Every}
 use Rattle.model.specs.Bound.{Bound, none, most, LeB, plus}
-use Rattle.model.specs.Matrix.{Matrix, entry, Member, Constraint, tighten}
-use Rattle.model.specs.Network.{Time, secs, time, next}
-use Rattle.model.specs.Search.{chosen, tightest}
+use Rattle.model.specs.Matrix.{Matrix, entry, Member, everything, Constraint, constrain, tighten}
+use Rattle.model.specs.Pattern.{pairBound, patternConstraints}
+use Rattle.model.specs.Network.{Time, secs, Network, time, next}
+use Rattle.model.specs.Search.{chosen, rowsConstraints, tightest}
 use Rattle.model.specs.Faults.{beyond}
+
+-- ---- departures
+pub record Departures (n : ℕ) : Type 0 where
+  pub some : 1 ≤ n
+  pub few : n ≤ mostDepartures
 
 -- ---- columns
 -- column j of row i holds a time
@@ -35,26 +42,42 @@ pub data Chosen (n : ℕ) (a : List Time) : ℕ → ℕ → Type 0 where
 abbrev pub Cols : ℕ → List Time → List ℕ → ℕ → Type 0
 Cols n a cols i = (l : ℕ) → l < i → Chosen n a l (getD cols l 0)
 
+-- a column for each of r rows from row i on
+pub data Selection (n : ℕ) (a : List Time) : ℕ → ℕ → List ℕ → Type 0 where
+  no-row : {i : ℕ} → Selection n a zero i []
+  choose : {r i j : ℕ} {s : List ℕ} → Column n a i j → Selection n a r (suc i) s → Selection n a (suc r) i (j ∷ s)
+
 -- ---- sizes
--- times of at most 86,400
-abbrev pub TimesSmall : ℕ → List Time → Type 0
-TimesSmall n a = (i j : ℕ) (v : ℤ) → time n a i j ≡ secs v → natAbs v ≤ 86400
-
--- the limits of a table
-pub record TableLimits (n : ℕ) (times : List Time) : Type 0 where
-  pub some-departures : 1 ≤ n
-  pub few-departures : n ≤ 7
-  pub regular : Regular n times
-  pub times-small : TimesSmall n times
-
--- it is absent, or at most limit in size
-abbrev pub InLimit : ℕ → Slot → Type 0
-InLimit limit e = beyond limit e ≡ false
-
 -- no bound, or one of at most B in size
 pub data Small (B : ℕ) : Bound → Type 0 where
   free : Small B none
   sized : {z : ℤ} → natAbs z ≤ B → Small B (most z)
+
+-- times in their limit
+abbrev pub TimesSmall : ℕ → List Time → Type 0
+TimesSmall n a = (i j : ℕ) (v : ℤ) → time n a i j ≡ secs v → natAbs v ≤ timeLimit
+
+-- the stated bounds of a pattern are at most B in size
+abbrev pub PatternSmall : ℕ → ℕ → List Bound → Type 0
+PatternSmall n B b = (i j : ℕ) → Small B (pairBound n b i j)
+
+-- the limits of a table
+pub record TableLimits (n : ℕ) (times : List Time) : Type 0 where
+  pub departures : Departures n
+  pub regular : Regular n times
+  pub times-small : TimesSmall n times
+
+-- the limits of a call's network
+pub record Limits (w : Network) : Type 0 where
+  pub table : TableLimits (w .n) (w .times)
+  pub some-cycles : 1 ≤ w .horizon
+  pub few-cycles : w .horizon ≤ mostCycles
+  pub start-small : PatternSmall (w .n) boundLimit (w .start)
+  pub target-small : PatternSmall (w .n) boundLimit (w .target)
+
+-- it is absent, or at most limit in size
+abbrev pub InLimit : ℕ → Slot → Type 0
+InLimit limit e = beyond limit e ≡ false
 
 -- each limit is at most B in size
 abbrev pub AllSmall : ℕ → List Constraint → Type 0
@@ -78,16 +101,34 @@ pub record Closed (m : ℕ) (d : Matrix) : Type 0 where
   pub diag : (i : ℕ) → i < m → entry m d i i ≡ most (pos 0)
   pub triangle : (i j k : ℕ) → i < m → j < m → k < m → LeB (entry m d i j) (plus (entry m d i k) (entry m d k j))
 
+-- each finite bound is at most L in size
+abbrev pub Bounded : ℕ → ℕ → Matrix → Type 0
+Bounded m L d = (i j : ℕ) → i < m → j < m → Small L (entry m d i j)
+
+-- no set on the way has a finite bound beyond L: neither the set itself nor what any front of the constraints leaves of it
+pub data Fitting (m L : ℕ) : Option Matrix → List Constraint → Type 0 where
+  gone : {ks : List Constraint} → Fitting m L Option.none ks
+  last : {d : Matrix} → Bounded m L d → Fitting m L (some d) []
+  more : {d : Matrix} {k : Constraint} {ks : List Constraint} → Bounded m L d → Fitting m L (constrain m (some d) k) ks → Fitting m L (some d) (k ∷ ks)
+
+-- the preimages of d by all selections can be built within L
+abbrev pub Buildable : ℕ → List Time → ℕ → Matrix → Type 0
+Buildable n a L d = (sel : List ℕ) → Selection n a n 1 sel → Fitting (suc n) L (some (everything (suc n))) (rowsConstraints n a d (0 ∷ []) 1 sel)
+
+-- and what d has in common with a pattern
+abbrev pub Meetable : ℕ → List Bound → ℕ → Matrix → Type 0
+Meetable n b L d = Fitting (suc n) L (some d) (patternConstraints n b)
+
 -- the tightest of f 0, .., f (t - 1)
 abbrev pub tightestOf : ℕ → (ℕ → Bound) → Bound
 tightestOf t f = tightest (tabulate t 0 f)
 
 -- how late the time of t may be in d, given those below t, and how early, negated
-abbrev pub latest : ℕ → Matrix → ℕ → (ℕ → ℤ) → Bound
-latest m d t x = tightestOf t (λ s. plus (entry m d t s) (most (x s)))
+abbrev pub howLate : ℕ → Matrix → ℕ → (ℕ → ℤ) → Bound
+howLate m d t x = tightestOf t (λ s. plus (entry m d t s) (most (x s)))
 
-abbrev pub earliest : ℕ → Matrix → ℕ → (ℕ → ℤ) → Bound
-earliest m d t x = tightestOf t (λ s. plus (entry m d s t) (most (negℤ (x s))))
+abbrev pub howEarly : ℕ → Matrix → ℕ → (ℕ → ℤ) → Bound
+howEarly m d t x = tightestOf t (λ s. plus (entry m d s t) (most (negℤ (x s))))
 
 -- ---- images
 -- the image of x: the clock's time, then the times of the next cycle

@@ -12,6 +12,7 @@ use Rattle.model.specs.declared.Fault.{Fault}
 use Rattle.model.specs.declared.Fault.the-variants as fault
 use Rattle.model.specs.declared.Verdict.the-variants as verdict
 use Rattle.model.specs.declared.Answer.{Answer}
+use Rattle.model.specs.Sizes.{mostCycles}
 use Rattle.model.specs.Pattern.{InPattern, onlyDifferences}
 use Rattle.model.specs.Network.{Network, clocked, cycles, power, added, Repeat}
 use Rattle.model.specs.Search.{lists, someLarge, plan}
@@ -57,12 +58,16 @@ pub record First (w : Network) (k : ℕ) : Type 0 where
   pub not-before : NotBefore w k
   pub met : Met w k
 
+-- list k has more zones than the capacity, or a bound that is too large
+abbrev pub TooMuch : Network → ℕ → ℕ → Type 0
+TooMuch w capacity k = (capacity < length (lists w k)) ⊎ (someLarge (lists w k) ≡ true)
+
 -- the search ends early
 pub record EndsEarly (w : Network) (capacity : ℕ) : Type 0 where
   pub at : ℕ
   pub from-one : 1 ≤ at
   pub searched : at ≤ plan w .cycles
-  pub too-much : (capacity < length (lists w at)) ⊎ (someLarge (lists w at) ≡ true)
+  pub too-much : TooMuch w capacity at
   pub unmet : NotBefore w at
 
 -- list k is searched, the lists before it fit, and the target is not met before
@@ -100,9 +105,9 @@ pub record Repeated (w : Network) (q p : ℕ) (number : ℤ) : Type 0 where
   pub earlier : p < q
   pub again : power (w .n) (w .times) (q - 1) ≡ added number (power (w .n) (w .times) (p - 1))
 
--- the first repeated power: the least q from 2 to 64 that repeats some p from 1 to q - 1
+-- the first repeated power: the least q from 2 to mostCycles that repeats some p from 1 to q - 1
 pub record LeastRepeat (w : Network) (r : Repeat) : Type 0 where
-  pub among : r .q ≤ 64
+  pub among : r .q ≤ mostCycles
   pub repeated : Repeated w (r .q) (r .p) (r .number)
   pub first : (q p : ℕ) (number : ℤ) → q < r .q → Repeated w q p number → ⊥
 

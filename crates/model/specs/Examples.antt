@@ -1,5 +1,5 @@
 -- The examples that document 01 marks (P): one list, one claim.
-use Prim.Native.Nat.{ℕ, _+_, _*_}
+use Prim.Native.Nat.{ℕ}
 use lib.IntN.{ℤ, pos, negsuc}
 use mathlib.Core.Path.{_≡_, refl}
 use mathlib.Core.List.{List, [], _∷_}
@@ -7,6 +7,7 @@ use mathlib.Core.Option.{some}
 use Rattle.model.specs.declared.Slot.{Slot}
 use Rattle.model.specs.declared.Case.{Case}
 use Rattle.model.specs.declared.Judged.the-variants as judged
+use Rattle.model.specs.Sizes.{workspaceSize}
 use Rattle.model.specs.Lists as L
 use Rattle.model.specs.Bound as B
 use Rattle.model.specs.Matrix as M
@@ -18,7 +19,7 @@ use Rattle.model.specs.Search.{reached, clear, never, tableFull}
 use Rattle.model.specs.Faults as F
 use Rattle.model.specs.Faults.{nothing, present, network}
 use Rattle.model.specs.Packed.{caseOf}
-use Rattle.model.specs.Answers.{sevenTimes, answered, answer, run}
+use Rattle.model.specs.Answers.{allTimes, answered, answer, run}
 
 -- a claim: on the powers of a case, on its verdict with Z zones and a workspace that is just long enough, on a run's cycle k
 pub data Example : Type 0 where
@@ -28,8 +29,8 @@ pub data Example : Type 0 where
 
 abbrev pub Right : Example → Type 0
 Right (powers-of c r) = repeatOf (network c) ≡ some r
-Right (verdict-of c z o) = answer c z (2 * z * (c .n + 1) * (c .n + 1)) ≡ answered o
-Right (run-of c xs k ys) = run c (sevenTimes xs) k ≡ record { judged = judged.Accepted; times = sevenTimes ys }
+Right (verdict-of c z o) = answer c z (workspaceSize z (c .n)) ≡ answered o
+Right (run-of c xs k ys) = run c (allTimes xs) k ≡ record { judged = judged.Accepted; times = allTimes ys }
 
 abbrev pub AllRight : List Example → Type 0
 AllRight [] = Unit {0}
@@ -89,5 +90,11 @@ examples =
     ∷ []
 
 pub all-right : AllRight examples
-unfolding L.tabulate L.anyOf L.allOf mathlib.Core.List.flatten mathlib.Core.List.flatMap B.plus B.tighter B.negative B.sameZ B.sameBound M.entry M.matrix M.diagonal M.everything M.relaxed M.within M.constrain M.tighten M.sameMatrix P.pairPlace P.pairBound P.patternConstraints P.isNone P.onlyDifferences N.time N.isTime N.regular N.later N.latest N.after N.secsOf N.clocked N.next N.cycle N.cycles N.product N.powersFrom N.added N.gap N.sameTime L.sameLists N.repeats N.firstRepeat N.repeatOf X.columns X.selections X.chosen X.slack X.attains X.keeps X.rowConstraints X.rowsConstraints X.preimage X.keep X.previous X.lists X.common X.firstCommon X.tightest X.above X.below X.leastOr X.choices X.pick X.planWith X.plan X.large X.someLarge X.settled X.searchFrom X.outcome F.timeOf F.boundOf F.network F.beyond F.entryFault F.rowsFault F.outside F.tableFault F.patternsFault F.caseFault F.roomFault F.callFault F.runFault answer run
+unfolding L.tabulate L.anyOf L.allOf mathlib.Core.List.flatten mathlib.Core.List.flatMap B.plus B.tighter B.negative B.sameZ B.sameBound M.entry M.matrix
+    M.diagonal M.everything M.relaxed M.within M.constrain M.tighten M.sameMatrix P.pairPlace P.pairBound P.patternConstraints P.isNone P.onlyDifferences
+    N.time N.isTime N.regular N.later N.latest N.after N.secsOf N.clocked N.next N.cycle N.cycles N.product N.powersFrom N.added N.gap N.sameTime
+    L.sameLists N.repeats N.firstRepeat N.repeatOf X.columns X.selections X.chosen X.slack X.attains X.keeps X.rowConstraints X.rowsConstraints X.preimage
+    X.keep X.previous X.lists X.common X.firstCommon X.tightest X.above X.below X.leastOr X.choices X.pick X.planWith X.plan X.large X.someLarge X.settled
+    X.searchFrom X.outcome F.timeOf F.boundOf F.network F.beyond F.entryFault F.rowsFault F.outside F.tableFault F.patternsFault F.caseFault F.roomFault
+    F.callFault F.runFault answer run
 all-right = (refl, (refl, (refl, (refl, (refl, (refl, (refl, (refl, (refl, (refl, (refl, (refl, (refl, (refl, (refl, (refl, tt))))))))))))))))

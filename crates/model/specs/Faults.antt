@@ -1,5 +1,6 @@
--- Document 01's faults, and 14 and 15 of requests [1] and [2]: their numbers, what they return, and the first one of an unpacked case, of a call and of a run.
-use Prim.Native.Nat.{ℕ, zero, suc, _+_, _*_}
+-- Document 01's faults, and 14 and 15 of requests [1] and [2]: their numbers, what they return, and the first one of an unpacked case, of a call and of
+-- a run.
+use Prim.Native.Nat.{ℕ, zero, suc, _+_}
 use lib.IntN.{ℤ, pos, natAbs}
 use mathlib.Core.List.{List, [], _∷_, map}
 use mathlib.Core.Option.{Option, none}
@@ -11,6 +12,7 @@ use Rattle.model.specs.declared.Slot.{Slot}
 use Rattle.model.specs.declared.Case.{Case}
 use Rattle.model.specs.declared.Fault.{Fault}
 use Rattle.model.specs.declared.Fault.the-variants as fault
+use Rattle.model.specs.Sizes.{mostDepartures, mostCycles, mostZones, timeLimit, boundLimit, startLimit, tableSize, patternSize, workspaceSize}
 use Rattle.model.specs.Lists.{when, orElse}
 use Rattle.model.specs.Bound as B
 use Rattle.model.specs.Bound.{Bound, most}
@@ -53,16 +55,16 @@ nothing = record { has = false; value = record { 0 = pos 0 } }
 abbrev pub present : ℤ → Slot
 present z = record { has = true; value = record { 0 = z } }
 
--- the bounds of a pattern
-abbrev pub patternSize : ℕ → ℕ
-patternSize n = n * (n + 1)
+-- the times of a table of n departures
+abbrev pub tableOf : ℕ → List Slot → List Time
+tableOf n slots = map timeOf (take (tableSize n) slots)
 
 -- the network of a case: entries beyond n are ignored
 unfoldable pub network : Case → Network
 network c = record {
   n = c .n;
   horizon = c .horizon .0;
-  times = map timeOf (take (c .n * c .n) (c .times));
+  times = tableOf (c .n) (c .times);
   start = map boundOf (take (patternSize (c .n)) (c .start));
   target = map boundOf (take (patternSize (c .n)) (c .target));
 }
@@ -79,23 +81,23 @@ entryFault limit f p (e ∷ es) = orElse (when (beyond limit e) (f p)) (entryFau
 unfoldable pub rowsFault : ℕ → ℕ → ℕ → List Slot → Option Fault
 rowsFault n zero p es = none
 rowsFault n (suc r) p es =
-    orElse (entryFault 86400 fault.Time p (take n es))
+    orElse (entryFault timeLimit fault.Time p (take n es))
     (orElse (when (not (regular (map timeOf (take n es)))) (fault.EmptyRow p)) (rowsFault n r (p + n) (drop n es)))
 
 unfoldable pub outside : ℕ → ℕ → ℕ → Bool
 outside low high k = ltb k low || ltb high k
 
--- faults 2 and 3, the second for a number of cycles from low to 64; then 4 and 5, row by row
+-- faults 2 and 3, the second for a number of cycles from low on; then 4 and 5, row by row
 unfoldable pub tableFault : Case → ℕ → ℕ → Option Fault
 tableFault c low k =
-    orElse (when (outside 1 7 (c .n)) fault.Departures)
-    (orElse (when (outside low 64 k) fault.Horizon) (rowsFault (c .n) (c .n) 0 (c .times)))
+    orElse (when (outside 1 mostDepartures (c .n)) fault.Departures)
+    (orElse (when (outside low mostCycles k) fault.Horizon) (rowsFault (c .n) (c .n) 0 (c .times)))
 
 -- then 6, of the start followed by the target
 unfoldable pub patternsFault : Case → Option Fault
 patternsFault c =
     let size = patternSize (c .n) in
-    orElse (entryFault 1000000 fault.Bound 0 (take size (c .start))) (entryFault 1000000 fault.Bound size (take size (c .target)))
+    orElse (entryFault boundLimit fault.Bound 0 (take size (c .start))) (entryFault boundLimit fault.Bound size (take size (c .target)))
 
 -- the first fault of an unpacked case by itself, 2 to 6
 unfoldable pub caseFault : Case → Option Fault
@@ -104,7 +106,7 @@ caseFault c = orElse (tableFault c 1 (c .horizon .0)) (patternsFault c)
 -- then 9 and 10
 unfoldable pub roomFault : ℕ → ℕ → ℕ → Option Fault
 roomFault n capacity size =
-    orElse (when (outside 1 4096 capacity) fault.Capacity) (when (ltb size (2 * capacity * (n + 1) * (n + 1))) fault.Workspace)
+    orElse (when (outside 1 mostZones capacity) fault.Capacity) (when (ltb size (workspaceSize capacity n)) fault.Workspace)
 
 -- the first fault of a call for a verdict: the case, Z, the length of the workspace
 unfoldable pub callFault : Case → ℕ → ℕ → Option Fault
@@ -113,4 +115,4 @@ callFault c capacity size = orElse (caseFault c) (roomFault (c .n) capacity size
 -- the first fault of a run: the case, the start times, the cycle
 unfoldable pub runFault : Case → List Seconds → ℕ → Option Fault
 runFault c xs k =
-    orElse (tableFault c 0 k) (entryFault 1000000000000 fault.StartTime 0 (map (λ x. present (x .0)) (take (c .n) xs)))
+    orElse (tableFault c 0 k) (entryFault startLimit fault.StartTime 0 (map (λ x. present (x .0)) (take (c .n) xs)))

@@ -1,4 +1,5 @@
--- The definitions, in document 01's order. Lists and options first; the marked examples last.
+-- The definitions, in document 01's order. Sizes, lists and options first; the marked examples last.
+pub mod Sizes
 pub mod Lists
 pub mod Bound
 pub mod Matrix

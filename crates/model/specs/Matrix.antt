@@ -36,13 +36,13 @@ pub record Constraint : Type 0 where
   pub col : ℕ
   pub limit : Bound
 
--- x(a) - x(b) ≤ c, taken in
-unfoldable pub relaxed : ℕ → Matrix → ℕ → ℕ → ℤ → Matrix
-relaxed m d a b c = matrix m (λ i j. tighter (entry m d i j) (plus (plus (entry m d i a) (most c)) (entry m d b j)))
+-- that x(a) - x(b) is within c, taken in
+unfoldable pub relaxed : ℕ → Matrix → ℕ → ℕ → Bound → Matrix
+relaxed m d a b c = matrix m (λ i j. tighter (entry m d i j) (plus (plus (entry m d i a) c) (entry m d b j)))
 
 unfoldable pub within : ℕ → Matrix → ℕ → ℕ → Bound → Option Matrix
 within m d a b B.Bound.none = some d
-within m d a b (most c) = cond (negative (plus (entry m d b a) (most c))) none (some (relaxed m d a b c))
+within m d a b (most c) = cond (negative (plus (entry m d b a) (most c))) none (some (relaxed m d a b (most c)))
 
 -- one more constraint: the tightest bounds of the times of d that meet it too, or none where there are none
 unfoldable pub constrain : ℕ → Option Matrix → Constraint → Option Matrix

@@ -6,6 +6,7 @@ use mathlib.Core.List.{List, [], _∷_, _++_, map, flatten, foldr}
 use mathlib.Core.Option.{Option, none, some}
 use mathlib.Core.Bool.{Bool, true, false, cond}
 use lib.ListN.{getD}
+use Rattle.model.specs.Sizes.{mostCycles}
 use Rattle.model.specs.Lists.{tabulate, anyOf, sameLists}
 use Rattle.model.specs.Bound.{Bound, sameZ}
 
@@ -118,6 +119,6 @@ firstRepeat q earlier [] = none
 firstRepeat q earlier (b ∷ bs) =
     elim (repeats q 1 earlier b) [ some r ↦ some r | none ↦ firstRepeat (suc q) (earlier ++ (b ∷ [])) bs ]
 
--- document 01's first repeated power, among the first sixty-four
+-- document 01's first repeated power, among the first mostCycles
 unfoldable pub repeatOf : Network → Option Repeat
-repeatOf w = firstRepeat 1 [] (powersFrom 64 (w .n) (w .times) (w .times))
+repeatOf w = firstRepeat 1 [] (powersFrom mostCycles (w .n) (w .times) (w .times))

@@ -9,9 +9,10 @@ use Rattle.model.specs.declared.Slot.{Slot}
 use Rattle.model.specs.declared.Case.{Case}
 use Rattle.model.specs.declared.Fault.{Fault}
 use Rattle.model.specs.declared.Fault.the-variants as fault
+use Rattle.model.specs.Sizes.{mostBounds, timeLimit, boundLimit, patternSize, departuresWidth, horizonWidth, timeWidth, boundWidth}
 use Rattle.model.specs.Lists.{padded}
 use Rattle.model.specs.Network.{regular}
-use Rattle.model.specs.Faults.{timeOf, nothing, present, beyond, patternSize}
+use Rattle.model.specs.Faults.{timeOf, nothing, present, beyond}
 
 -- a value and the place after it, or the first fault
 pub data Reading (A : Type 0) : Type 0 where
@@ -62,11 +63,11 @@ entries s w limit f (suc k) p before = andThen (entry s w limit f p) (λ e q. en
 unfoldable pub rows : List ℕ → ℕ → ℕ → ℕ → List Slot → Reading (List Slot)
 rows s n zero p before = got before p
 rows s n (suc k) p before =
-    andThen (entries s 18 86400 fault.Time n p []) (λ row q.
+    andThen (entries s timeWidth timeLimit fault.Time n p []) (λ row q.
     cond (regular (map timeOf row)) (rows s n k q (before ++ row)) (refused (fault.EmptyRow p)))
 
 unfoldable pub bounds : List ℕ → ℕ → ℕ → Reading (List Slot)
-bounds s n p = entries s 21 1000000 fault.Bound (patternSize n) p []
+bounds s n p = entries s boundWidth boundLimit fault.Bound (patternSize n) p []
 
 -- k bits that are 0
 unfoldable pub zeros : List ℕ → ℕ → ℕ → Reading ℕ
@@ -84,9 +85,9 @@ abbrev pub caseOf : ℕ → ℕ → List Slot → List Slot → List Slot → Ca
 caseOf n h times start target = record {
   n = n;
   horizon = record { 0 = h };
-  times = padded nothing 49 times;
-  start = padded nothing 56 start;
-  target = padded nothing 56 target;
+  times = padded nothing mostBounds times;
+  start = padded nothing mostBounds start;
+  target = padded nothing mostBounds target;
 }
 
 -- what follows the two numbers
@@ -100,7 +101,7 @@ body s n h p =
 
 unfoldable pub parse : List ℕ → Reading Case
 parse s =
-    andThen (bits s 3 0 0) (λ n a.
+    andThen (bits s departuresWidth 0 0) (λ n a.
     cond (eqb n 0) (refused fault.Departures)
-    (andThen (bits s 6 a a) (λ m b.
+    (andThen (bits s horizonWidth a a) (λ m b.
     body s n (m + 1) b)))

@@ -6,6 +6,7 @@ use mathlib.Core.Option.{Option, none, some, Option·map}
 use mathlib.Core.Bool.{Bool, true, false, _||_, cond}
 use lib.ListN.{getD, length, drop}
 use lib.Dec.{ltb, leb}
+use Rattle.model.specs.Sizes.{zoneLimit}
 use Rattle.model.specs.Lists.{tabulate, anyOf, when, orElse}
 use Rattle.model.specs.Bound as B
 use Rattle.model.specs.Bound.{Bound, most, plus, tighter}
@@ -122,10 +123,10 @@ planWith n (some r) true = record { cycles = min n (r .q - 1); end = cond (leb (
 unfoldable pub plan : Network → Plan
 plan w = planWith (w .horizon) (repeatOf w) (onlyDifferences (w .n) (w .start) || onlyDifferences (w .n) (w .target))
 
--- a finite bound beyond 2,000,000,000 in size
+-- a finite bound beyond the limit in size
 unfoldable pub large : Bound → Bool
 large B.Bound.none = false
-large (most b) = ltb 2000000000 (natAbs b)
+large (most b) = ltb zoneLimit (natAbs b)
 
 unfoldable pub someLarge : List Matrix → Bool
 someLarge zs = anyOf (anyOf large) zs

@@ -1,5 +1,6 @@
 -- The writer of packed cases, request [1]: document 01's packed case the other way round. Bits are listed in file order, each 0 or 1.
-use Prim.Native.Nat.{ℕ, suc, _+_, _-_, _*_, _/_, _%_, _^_}
+use Prim.Native.Nat.{ℕ, suc, _+_, _-_, _*_, _/_, _%_, _^_, _≤_}
+use mathlib.Core.Path.{_≡_}
 use mathlib.Core.List.{List, [], _∷_, _++_, map, flatMap}
 use mathlib.Core.Bool.{Bool, cond}
 use mathlib.Core.Option.{Option, none, some}
@@ -12,8 +13,9 @@ use Rattle.model.specs.declared.Written.{Written}
 use Rattle.model.specs.declared.Written.the-variants as written
 use Rattle.model.specs.declared.Fault.{Fault}
 use Rattle.model.specs.declared.Fault.the-variants as fault
+use Rattle.model.specs.Sizes.{tableSize, patternSize, timeLimit, boundLimit, departuresWidth, horizonWidth, timeWidth, boundWidth}
 use Rattle.model.specs.Lists.{tabulate, when, orElse}
-use Rattle.model.specs.Faults.{nothing, present, beyond, patternSize, caseFault}
+use Rattle.model.specs.Faults.{nothing, present, beyond, caseFault}
 use Rattle.model.specs.Packed.{numOf, signed, caseOf}
 
 -- ---- bits and bytes
@@ -53,10 +55,10 @@ slotKind w limit f = record {
 }
 
 abbrev pub timeKind : Kind Slot
-timeKind = slotKind 18 86400 fault.Time
+timeKind = slotKind timeWidth timeLimit fault.Time
 
 abbrev pub boundKind : Kind Slot
-boundKind = slotKind 21 1000000 fault.Bound
+boundKind = slotKind boundWidth boundLimit fault.Bound
 
 -- a presence bit, then the value if it is 1
 unfoldable pub entryBits : {A : Type 0} → Kind A → A → List ℕ
@@ -71,10 +73,11 @@ entriesBits k es = flatMap (entryBits k) es
 abbrev pub allBounds : Case → List Slot
 allBounds c = take (patternSize (c .n)) (c .start) ++ take (patternSize (c .n)) (c .target)
 
--- document 01's fields: n, 3 bits; N - 1, 6 bits; A row by row; start; target
+-- document 01's fields: n; N - 1; A row by row; start; target
 unfoldable pub caseBits : Case → List ℕ
 caseBits c =
-    fieldBits 3 (c .n) ++ fieldBits 6 (c .horizon .0 - 1) ++ entriesBits timeKind (take (c .n * c .n) (c .times)) ++ entriesBits boundKind (allBounds c)
+    fieldBits departuresWidth (c .n) ++ fieldBits horizonWidth (c .horizon .0 - 1)
+    ++ entriesBits timeKind (take (tableSize (c .n)) (c .times)) ++ entriesBits boundKind (allBounds c)
 
 -- the packed case
 unfoldable pub packedBytes : Case → List ℕ
@@ -89,7 +92,13 @@ unfoldable pub tidied : Case → Case
 tidied c =
     let size = patternSize (c .n) in
     caseOf (c .n) (c .horizon .0)
-    (map (tidy timeKind) (take (c .n * c .n) (c .times))) (map (tidy boundKind) (take size (c .start))) (map (tidy boundKind) (take size (c .target)))
+    (map (tidy timeKind) (take (tableSize (c .n)) (c .times))) (map (tidy boundKind) (take size (c .start))) (map (tidy boundKind) (take size (c .target)))
+
+-- its arrays are long enough for n, as those of the code are
+pub record Whole (c : Case) : Type 0 where
+  pub times : tableSize (c .n) ≤ length (c .times)
+  pub start : patternSize (c .n) ≤ length (c .start)
+  pub target : patternSize (c .n) ≤ length (c .target)
 
 -- ---- what a writer answers, and what the output holds afterwards
 -- fault 14: an output of this length is too short for the bytes
@@ -109,3 +118,9 @@ told none bytes = written.Bytes (length bytes)
 unfoldable pub outputAfter : Option Fault → List ℕ → List ℕ → List ℕ
 outputAfter (some f) bytes out = out
 outputAfter none bytes out = bytes ++ drop (length bytes) out
+
+-- what writing a case gives: the answer, the output afterwards, and what a proof that reads the bytes back needs to know of the case
+pub record WriteGiven (c : Case) (out : List ℕ) (r : Written) (after : List ℕ) : Type 0 where
+  pub answer : r ≡ told (writeFault c (length out)) (packedBytes c)
+  pub output : after ≡ outputAfter (writeFault c (length out)) (packedBytes c) out
+  pub whole : caseFault c ≡ none → Whole c

@@ -52,5 +52,6 @@ vectors =
     ∷ []
 
 pub all-right : AllRight vectors
-unfolding tabulate anyOf mathlib.Core.List.flatMap isTime regular F.timeOf F.beyond F.entryFault F.rowsFault F.outside F.tableFault F.patternsFault F.caseFault numOf W.fieldBits W.bytesOf W.rawOf W.entryBits W.entriesBits W.caseBits packedBytes W.roomFor writeFault told outputAfter
+unfolding tabulate anyOf mathlib.Core.List.flatMap isTime regular F.timeOf F.beyond F.entryFault F.rowsFault F.outside F.tableFault F.patternsFault
+    F.caseFault numOf W.fieldBits W.bytesOf W.rawOf W.entryBits W.entriesBits W.caseBits packedBytes W.roomFor writeFault told outputAfter
 all-right = ((refl, refl), ((refl, refl), ((refl, refl), ((refl, refl), ((refl, refl), tt)))))

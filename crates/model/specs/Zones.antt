@@ -1,11 +1,12 @@
 -- Zones as document 01's sets of times: which set each zone of a list is, and that its matrix holds the tightest bounds of that set.
-use Prim.Native.Nat.{ℕ, suc, _-_, _*_, _≤_, _<_}
+use Prim.Native.Nat.{ℕ, suc, _-_, _≤_, _<_}
 use mathlib.Core.Path.{_≡_}
 use mathlib.Core.Logic.{_↔_}
 use mathlib.Core.List.{List, [], _∷_, _++_, map, flatMap}
 use lib.IntN.{ℤ, _-ℤ_}
 use lib.Signed.{_≤ℤ_, _<ℤ_}
 use lib.ListN.{length, getD}
+use Rattle.model.specs.Sizes.{zoneSize}
 use Rattle.model.specs.Lists.{Every, Some}
 use Rattle.model.specs.Bound as B
 use Rattle.model.specs.Bound.{Bound, most}
@@ -23,7 +24,7 @@ pub data Greatest (P : ℤ → Type 0) : Bound → Type 0 where
 -- or none, and it is all the times that keep to these bounds
 pub record Zone (n : ℕ) (P : List ℤ → Type 0) (z : Matrix) : Type 0 where
   pub times : (xs : List ℤ) × P xs
-  pub size : length z ≡ suc n * suc n
+  pub size : length z ≡ zoneSize n
   pub tightest : (i j : ℕ) → i < suc n → j < suc n
       → Greatest (λ v. (xs : List ℤ) × P xs × (v ≡ clocked xs i -ℤ clocked xs j)) (entry (suc n) z i j)
   pub all : (xs : List ℤ) → P xs ↔ ((length xs ≡ n) × Member (suc n) z (clocked xs))

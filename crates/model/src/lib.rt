@@ -1,16 +1,43 @@
 // The public types of the checker. What they mean is defined in specs/.
 ghost use mathlib.Core.Path.{_≡_};
-ghost use Rattle.model.specs.Faults.{number, returned};
+ghost use mir.Syntax.{w64};
+ghost use mir.Val.{SFits};
+ghost use Rattle.model.specs.Network.{later, after, secsOf};
+ghost use Rattle.model.specs.Faults.{number, returned, timeOf};
 ghost use Rattle.model.specs.Answers.{numbersOf};
 use ints::Cycle;
 use ints::Seconds;
+use ints::ZERO;
 
-// The most departures of a network, and the entries of its table and of a pattern.
+// The most departures of a network, cycles of a horizon and zones of a capacity.
 pub const DEPARTURES: usize = 7;
 
-pub const TIMES: usize = 49;
+pub const CYCLES: usize = 64;
 
-pub const BOUNDS: usize = 56;
+pub const ZONES: usize = 4096;
+
+// The most that a time of the table, a bound of a pattern and a run's start time are in size.
+pub const TIME_LIMIT: u64 = 86400;
+
+pub const BOUND_LIMIT: u64 = 1000000;
+
+pub const START_LIMIT: u64 = 1000000000000;
+
+// The bits of a packed case's fields: n, N - 1, the value of a time and of a bound.
+pub const DEPARTURES_WIDTH: usize = 3;
+
+pub const HORIZON_WIDTH: usize = 6;
+
+pub const TIME_WIDTH: usize = 18;
+
+pub const BOUND_WIDTH: usize = 21;
+
+// The most entries of a table, of a pattern and of a zone.
+pub const TIMES: usize = DEPARTURES * DEPARTURES;
+
+pub const BOUNDS: usize = DEPARTURES * (DEPARTURES + 1);
+
+pub const NUMBERS: usize = (DEPARTURES + 1) * (DEPARTURES + 1);
 
 // An entry of a table or of a pattern: its value counts where has is true.
 pub struct Slot {
@@ -18,11 +45,37 @@ pub struct Slot {
     pub value: Seconds,
 }
 
-// An unpacked case. Entries are in packed order for n, from 0 on; those beyond are ignored.
+// An entry that is not there.
+pub const NOTHING: Slot = Slot {
+    has: false,
+    value: ZERO,
+};
+
+impl Slot {
+    // The later of a time and of the sum of two: max-plus addition and multiplication in one step, which compiles better than a function for each.
+    pub fn later_sum(self, first: Slot, second: Slot) -> Slot
+        requires { ⌜ SFits w64 (secsOf (after (timeOf first) (timeOf second))) ⌝ }
+        ensures { λ r. ⌜ timeOf r ≡ later (timeOf self) (after (timeOf first) (timeOf second)) ⌝ }
+    {
+        if !(first.has & second.has) {
+            return self;
+        }
+        let sum = first.value.plus(second.value);
+        if self.has & !self.value.at_most(sum) {
+            return self;
+        }
+        Slot {
+            has: true,
+            value: sum,
+        }
+    }
+}
+
+// An unpacked case. Entries are in packed order for n, from 0 on; those beyond are ignored. Each part has room for as many as a pattern has.
 pub struct Case {
     pub n: usize,
     pub horizon: Cycle,
-    pub times: [Slot; TIMES],
+    pub times: [Slot; BOUNDS],
     pub start: [Slot; BOUNDS],
     pub target: [Slot; BOUNDS],
 }

@@ -1,6 +1,6 @@
 -- Laws of the packed case's definition: what a reading gives and where it ends, one turn of each loop, and the array of entries.
 use mathlib.Core.Path.{_≡_, refl, sym, ap, _∙_}
-use Prim.Native.Nat.{ℕ, zero, suc, _+_, _-_, _*_, _^_, _≤_, _<_}
+use Prim.Native.Nat.{ℕ, suc, _+_, _-_, _*_, _^_, _≤_, _<_}
 use native.Mathlib.Nat.{pow-suc, suc-mul, mul-add}
 use native.Mathlib.Numerals.{add-one}
 use native.Mathlib.Omega.{arith}
@@ -10,6 +10,7 @@ use lib.Dec.{leb, eqb}
 use lib.ListN.{length, set, length-append}
 use lib.Pow.{pow-mono}
 use borrow.Author.Tests.{leb-true}
+use Rattle.model.specs.Sizes.{mostBounds, timeLimit, timeWidth, boundWidth}
 use Rattle.model.proofs.Stored.{padded-set, has-time}
 use Rattle.model.specs.declared.Slot.{Slot}
 use Rattle.model.specs.declared.Fault.{Fault}
@@ -17,19 +18,17 @@ use Rattle.model.specs.declared.Fault.the-variants as fault
 use Rattle.model.specs.Lists.{padded, anyOf}
 use Rattle.model.specs.Network.{isTime, regular}
 use Rattle.model.specs.Faults.{timeOf, nothing, present, beyond}
-use Rattle.model.specs.Packed.{got, refused, andThen, bitAt, numOf, numAt, bits, signed, entry, entries, rows, zeros}
+use Rattle.model.specs.Packed.{Reading, got, refused, andThen, bitAt, numOf, numAt, bits, signed, entry, entries, rows, zeros}
 use Rattle.model.proofs.Parsed.{Gives, value, no-value, given, test-gives, then-gives, num-small}
-use Rattle.packed.specs.Readings.{Place}
+use Rattle.packed.specs.declared.EntryKind.{EntryKind}
+use Rattle.packed.specs.declared.SlotRead.{SlotRead}
+use Rattle.packed.specs.Readings.{InCase, faultOf, entryOf, EntryAt, slotRead}
 
 -- ---- numbers
-pub bit-small : (s : List ℕ) (p : ℕ) → bitAt s p ≤ 1
-unfolding bitAt
-bit-small s p = omega arith
-
--- one more bit of a number of at most 32 bits
-pub num-next : (s : List ℕ) (p i : ℕ) → i < 32 → numAt s p i * 2 + 1 < 2 ^ 32
+-- one more bit of a field
+pub num-next : (s : List ℕ) (p i : ℕ) → i < boundWidth → numAt s p i * 2 + 1 < 2 ^ 32
 num-next s p i h =
-    let m : 2 ^ i ≤ 2 ^ 31 = pow-mono {i = i} {j = 31} (omega arith) in
+    let m : 2 ^ i ≤ 2 ^ boundWidth = pow-mono {i = i} {j = boundWidth} (omega arith) in
     omega (arith, num-small s p i)
 
 pub num-suc : (s : List ℕ) (p i : ℕ) → numAt s p (i + 1) ≡ numAt s p i * 2 + bitAt s (p + i)
@@ -39,7 +38,7 @@ num-suc s p i = ap (numAt s p) (add-one i)
 -- ---- what a reading gives
 pub record Number (s : List ℕ) (w p v q : ℕ) : Type 0 where
   pub small : v < 2 ^ w
-  pub place : Place s (p + w) q
+  pub place : InCase s (p + w) q
 
 pub bits-give : (s : List ℕ) (w first p : ℕ) → Gives (Number s w p) (bits s w first p)
 unfolding bits
@@ -48,21 +47,22 @@ bits-give s w first p =
     (λ h. value (omega (arith, num-small s p w, leb-true)))
     (λ h. no-value)
 
-pub entry-gives : (s : List ℕ) (w limit : ℕ) (f : ℕ → Fault) (p : ℕ) → Gives (λ e q. Place s (p + (1 + w)) q) (entry s w limit f p)
+pub entry-gives : (k : EntryKind) (s : List ℕ) (p : ℕ) → Gives (λ e q. InCase s (p + (1 + k .width)) q) (entryOf k s p)
 unfolding entry
-entry-gives s w limit f p =
+entry-gives k s p =
     then-gives (bits-give s 1 p p) (λ bit q h.
     test-gives (eqb bit 0) (λ z. value (omega arith)) (λ z.
-    then-gives (bits-give s w p q) (λ raw r k.
-    test-gives (beyond limit (present (signed (2 ^ (w - 1)) raw))) (λ z. no-value) (λ z. value (omega arith)))))
+    then-gives (bits-give s (k .width) p q) (λ raw r l.
+    test-gives (beyond (k .limit) (present (signed (2 ^ (k .width - 1)) raw))) (λ z. no-value) (λ z. value (omega arith)))))
 
--- half of the numbers of w bits, and a number of w bits
-pub half-range : (w half raw : ℕ) → 0 < w → w ≤ 24 → half ≡ 2 ^ (w - 1) → raw < 2 ^ w → (half ≤ 2 ^ 30) × (raw < half * 2)
-half-range zero half raw h l e r = absurd (omega arith)
-half-range (suc w) half raw h l e r =
-    let d : half ≡ 2 ^ w = e ∙ ap (λ (n : ℕ). 2 ^ n) (let q : suc w - 1 ≡ w = omega arith in q) in
+-- half of the numbers of an entry's width, and a number of that width
+pub half-range : {k : EntryKind} {p raw : ℕ} → EntryAt k p → raw < 2 ^ k .width → (k .half ≤ 2 ^ 30) × (raw < k .half * 2)
+half-range {k} h r =
+    let w = k .width - 1 in
+    let e : k .width ≡ suc w = omega arith in
+    let twice : 2 ^ k .width ≡ 2 ^ w * 2 = ap (λ (n : ℕ). 2 ^ n) e ∙ pow-suc 2 w in
     let m : 2 ^ w ≤ 2 ^ 30 = pow-mono {i = w} {j = 30} (omega arith) in
-    (omega arith, omega (arith, pow-suc 2 w))
+    omega arith
 
 -- ---- a turn, and the end, of what is read i of n times
 left : (n i : ℕ) → i < n → n - i ≡ suc (n - (i + 1))
@@ -71,19 +71,22 @@ left n i h = omega arith
 none-left : (n i : ℕ) → n ≤ i → n - i ≡ 0
 none-left n i h = omega arith
 
-module _ (s : List ℕ) (w limit : ℕ) (f : ℕ → Fault) (n i p : ℕ) (before : List Slot) where
-  entries-turn : i < n →
-      entries s w limit f (n - i) p before ≡ andThen (entry s w limit f p) (λ e q. entries s w limit f (n - (i + 1)) q (before ++ e ∷ []))
+-- n entries of a kind, after those of before
+abbrev pub entriesOf : EntryKind → List ℕ → ℕ → ℕ → List Slot → Reading (List Slot)
+entriesOf k s n p before = entries s (k .width) (k .limit) (faultOf k) n p before
+
+module _ (k : EntryKind) (s : List ℕ) (n i p : ℕ) (before : List Slot) where
+  entries-turn : i < n → entriesOf k s (n - i) p before ≡ andThen (entryOf k s p) (λ e q. entriesOf k s (n - (i + 1)) q (before ++ e ∷ []))
   unfolding entries
   entries-turn h = rw (left n i h)
 
-  entries-end : n ≤ i → entries s w limit f (n - i) p before ≡ got before p
+  entries-end : n ≤ i → entriesOf k s (n - i) p before ≡ got before p
   unfolding entries
   entries-end h = rw (none-left n i h)
 
 module _ (s : List ℕ) (n i p : ℕ) (before : List Slot) where
   pub rows-turn : i < n →
-      rows s n (n - i) p before ≡ andThen (entries s 18 86400 fault.Time n p []) (λ row q.
+      rows s n (n - i) p before ≡ andThen (entries s timeWidth timeLimit fault.Time n p []) (λ row q.
       cond (regular (map timeOf row)) (rows s n (n - (i + 1)) q (before ++ row)) (refused (fault.EmptyRow p)))
   unfolding rows
   rows-turn h = rw (left n i h)
@@ -108,49 +111,54 @@ regular-more [] e = or-false (isTime (timeOf e)) ∙ has-time e
 regular-more (x ∷ es) e = rw or-assoc (ap (λ (b : Bool). isTime (timeOf x) || b) (regular-more es e))
 
 -- ---- entries read into an array
+-- an entry's answer, once it is known
+pub answered : {r x : SlotRead} {y : Reading Slot} → slotRead r ≡ y → r ≡ x → y ≡ slotRead x
+answered h e = sym h ∙ ap slotRead e
+
 -- i of n entries were read from place first on, and stand in the array after the base entries that it held before
-pub record Entries (s : List ℕ) (w limit : ℕ) (f : ℕ → Fault) (n size base first : ℕ) (slots₀ : List Slot)
+pub record Entries (k : EntryKind) (s : List ℕ) (n base first : ℕ) (slots₀ : List Slot)
     (i : ℕ) (slots : List Slot) (next : ℕ) (read : List Slot) : Type 0 where
   pub long : length read ≡ i
   pub within : i ≤ n
-  pub place : Place s (first + (1 + w) * i) next
-  pub stored : (before : List Slot) → length before ≡ base → slots₀ ≡ padded nothing size before → slots ≡ padded nothing size (before ++ read)
-  pub rest : entries s w limit f n first [] ≡ entries s w limit f (n - i) next read
+  pub place : InCase s (first + (1 + k .width) * i) next
+  pub stored : (before : List Slot) → length before ≡ base → slots₀ ≡ padded nothing mostBounds before
+      → slots ≡ padded nothing mostBounds (before ++ read)
+  pub rest : entriesOf k s n first [] ≡ entriesOf k s (n - i) next read
 
-pub entries-none : {s : List ℕ} {w limit : ℕ} {f : ℕ → Fault} {n size base first : ℕ} {slots₀ : List Slot} →
-    first ≤ 8 * length s → Entries s w limit f n size base first slots₀ 0 slots₀ first []
-entries-none {s} {w} {limit} {f} {n} {size} {first} h =
+pub entries-none : {k : EntryKind} {s : List ℕ} {n base first : ℕ} {slots₀ : List Slot}
+    → first ≤ 8 * length s → Entries k s n base first slots₀ 0 slots₀ first []
+entries-none {k} {s} {n} {first} h =
     let z : n ≡ n - 0 = omega arith in
     record {
       long = refl;
       within = omega arith;
       place = omega arith;
-      stored = λ before l e. e ∙ ap (padded nothing size) (sym (append-nil before));
-      rest = ap (λ (k : ℕ). entries s w limit f k first []) z;
+      stored = λ before l e. e ∙ ap (padded nothing mostBounds) (sym (append-nil before));
+      rest = ap (λ (m : ℕ). entriesOf k s m first []) z;
     }
 
-module _ {s : List ℕ} {w limit : ℕ} {f : ℕ → Fault} {n size base first : ℕ} {slots₀ : List Slot} {i : ℕ} {slots : List Slot} {next : ℕ} {read : List Slot}
-    (r : Entries s w limit f n size base first slots₀ i slots next read) where
-  pub entries-more : i < n → (k : ℕ) → k ≡ base + i → k < size → (e : Slot) (q : ℕ) → entry s w limit f next ≡ got e q →
-      Entries s w limit f n size base first slots₀ (i + 1) (set slots k e) q (read ++ e ∷ [])
-  entries-more h k m b e q g =
-      let p = given (entry-gives s w limit f next) g in
+module _ {k : EntryKind} {s : List ℕ} {n base first : ℕ} {slots₀ : List Slot} {i : ℕ} {slots : List Slot} {next : ℕ} {read : List Slot}
+    (r : Entries k s n base first slots₀ i slots next read) where
+  pub entries-more : i < n → (j : ℕ) → j ≡ base + i → j < mostBounds → (e : Slot) (q : ℕ) → entryOf k s next ≡ got e q →
+      Entries k s n base first slots₀ (i + 1) (set slots j e) q (read ++ e ∷ [])
+  entries-more h j m b e q g =
+      let p = given (entry-gives k s next) g in
       record {
         long = omega (arith, length-append read (e ∷ []));
         within = omega arith;
-        place = omega (arith, mul-add (1 + w) i 1);
+        place = omega (arith, mul-add (1 + k .width) i 1);
         stored = λ before l d.
-            ap (λ (x : List Slot). set x k e) (r .stored before l d)
-            ∙ padded-set nothing size k (before ++ read) e (omega (arith, length-append before read)) b
-            ∙ ap (padded nothing size) (append-assoc before read (e ∷ []));
-        rest = r .rest ∙ entries-turn s w limit f n i next read h ∙ simp g;
+            ap (λ (x : List Slot). set x j e) (r .stored before l d)
+            ∙ padded-set nothing mostBounds j (before ++ read) e (omega (arith, length-append before read)) b
+            ∙ ap (padded nothing mostBounds) (append-assoc before read (e ∷ []));
+        rest = r .rest ∙ entries-turn k s n i next read h ∙ simp g;
       }
 
-  pub entries-fault : i < n → {e : Fault} → entry s w limit f next ≡ refused e → entries s w limit f n first [] ≡ refused e
-  entries-fault h g = r .rest ∙ entries-turn s w limit f n i next read h ∙ simp g
+  pub entries-fault : i < n → {e : Fault} → entryOf k s next ≡ refused e → entriesOf k s n first [] ≡ refused e
+  entries-fault h g = r .rest ∙ entries-turn k s n i next read h ∙ simp g
 
-  pub entries-done : n ≤ i → entries s w limit f n first [] ≡ got read next
-  entries-done h = r .rest ∙ entries-end s w limit f n i next read h
+  pub entries-done : n ≤ i → entriesOf k s n first [] ≡ got read next
+  entries-done h = r .rest ∙ entries-end k s n i next read h
 
 -- ---- the entries of one row more
 pub next-row : (n i : ℕ) → (i + 1) * n ≡ i * n + n

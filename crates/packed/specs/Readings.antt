@@ -1,59 +1,86 @@
 -- How the private answers say what a reading gives.
 use mathlib.Core.Path.{_≡_}
-use Prim.Native.Nat.{ℕ, _+_, _*_, _≤_}
+use mathlib.Core.Bool.{true, false, cond}
+use Prim.Native.Nat.{ℕ, _+_, _-_, _*_, _^_, _≤_, _<_}
 use mathlib.Core.List.{List}
 use lib.ListN.{length}
+use Rattle.model.specs.Sizes.{timeLimit, boundLimit, mostTimes, mostBounds, timeWidth, boundWidth, mostBits}
 use Rattle.model.specs.declared.Slot.{Slot}
 use Rattle.model.specs.declared.Fault.{Fault}
 use Rattle.model.specs.declared.Fault.the-variants as fault
 use Rattle.model.specs.Lists.{padded}
 use Rattle.model.specs.Faults.{nothing}
-use Rattle.model.specs.Packed.{Reading, got, refused}
-use Rattle.packed.specs.declared.Cursor.{Cursor}
+use Rattle.model.specs.Packed.{Reading, got, refused, andThen, entry}
 use Rattle.packed.specs.declared.Field.{Field}
 use Rattle.packed.specs.declared.Field.the-variants as field
-use Rattle.packed.specs.declared.Entry.{Entry}
-use Rattle.packed.specs.declared.Entry.the-variants as entry
-use Rattle.packed.specs.declared.End.{End}
-use Rattle.packed.specs.declared.End.the-variants as end
-use Rattle.packed.specs.declared.Table.{Table}
-use Rattle.packed.specs.declared.Pattern.{Pattern}
+use Rattle.packed.specs.declared.EntryKind.{EntryKind}
+use Rattle.packed.specs.declared.SlotRead.{SlotRead}
+use Rattle.packed.specs.declared.SlotRead.the-variants as slot
+use Rattle.packed.specs.declared.Next.{Next}
+use Rattle.packed.specs.declared.Next.the-variants as next
+use Rattle.packed.specs.declared.SlotsRead.{SlotsRead}
 
--- a place within the case, and at most most, so that the places of the next fields do not wrap
-pub record Place (s : List ℕ) (most p : ℕ) : Type 0 where
+-- ---- places
+-- a place within the case, and at most most
+pub record InCase (s : List ℕ) (most p : ℕ) : Type 0 where
   pub near : p ≤ most
   pub within : p ≤ 8 * length s
 
--- a field, whose first place is first
+-- a place from which so many bits more are no more than a case has, so that no place after it wraps
+abbrev pub From : List ℕ → ℕ → ℕ → Type 0
+From s count p = InCase s (mostBits - count) p
+
+-- the bits of the longest table and of the longest pattern
+abbrev pub mostTableBits : ℕ
+mostTableBits = mostTimes * (1 + timeWidth)
+
+abbrev pub mostPatternBits : ℕ
+mostPatternBits = mostBounds * (1 + boundWidth)
+
+-- ---- a field, whose first place is first
 abbrev pub fieldRead : ℕ → Field → Reading ℕ
 fieldRead first (field.Got v c) = got v (c .at)
 fieldRead first field.Ends = refused (fault.CaseEnds first)
 
--- an entry at place p, where f is the fault of a value beyond the limit
-abbrev pub entryRead : (ℕ → Fault) → ℕ → Entry → Reading Slot
-entryRead f p (entry.Got e c) = got e (c .at)
-entryRead f p entry.Ends = refused (fault.CaseEnds p)
-entryRead f p entry.Beyond = refused (f p)
+-- ---- an entry
+-- the fault of a value beyond the limit, at place p
+abbrev pub faultOf : EntryKind → ℕ → Fault
+faultOf k p = cond (k .bound) (fault.Bound p) (fault.Time p)
 
-abbrev pub endRead : End → Reading ℕ
-endRead (end.At c) = got 0 (c .at)
-endRead (end.Faulty f) = refused f
+abbrev pub timeEntry : EntryKind
+timeEntry = record { width = timeWidth; half = 2 ^ (timeWidth - 1); limit = timeLimit; bound = false }
 
--- the entries that x gives stand in an array of size slots, and c is the place after them
-pub record Read (s : List ℕ) (most size : ℕ) (x : Reading (List Slot)) (c : Cursor) (slots : List Slot) : Type 0 where
+abbrev pub boundEntry : EntryKind
+boundEntry = record { width = boundWidth; half = 2 ^ (boundWidth - 1); limit = boundLimit; bound = true }
+
+abbrev pub entryOf : EntryKind → List ℕ → ℕ → Reading Slot
+entryOf k s p = entry s (k .width) (k .limit) (faultOf k) p
+
+-- what is asked of the kind of an entry at place p
+pub record EntryAt (k : EntryKind) (p : ℕ) : Type 0 where
+  pub room : p + (1 + k .width) ≤ mostBits
+  pub some : 0 < k .width
+  pub few : k .width ≤ boundWidth
+  pub weight : k .half ≡ 2 ^ (k .width - 1)
+  pub small : k .limit ≤ boundLimit
+
+abbrev pub slotRead : SlotRead → Reading Slot
+slotRead (slot.Got e c) = got e (c .at)
+slotRead (slot.Faulty f) = refused f
+
+-- ---- entries
+-- where the next part starts, 0 where none does
+abbrev pub placeOf : Next → ℕ
+placeOf (next.At c) = c .at
+placeOf (next.Faulty f) = 0
+
+abbrev pub nextRead : Next → Reading ℕ
+nextRead (next.At c) = got 0 (c .at)
+nextRead (next.Faulty f) = refused f
+
+-- x gives the entries that stand in the array and the next part's place, or is refused
+pub record SlotsAre (s : List ℕ) (most : ℕ) (x : Reading (List Slot)) (r : SlotsRead) : Type 0 where
   pub read : List Slot
-  pub is : x ≡ got read (c .at)
-  pub stored : slots ≡ padded nothing size read
-  pub place : Place s most (c .at)
-
--- the same, or x is refused
-abbrev pub Holds : List ℕ → ℕ → ℕ → Reading (List Slot) → End → List Slot → Type 0
-Holds s most size x (end.At c) slots = Read s most size x c slots
-Holds s most size x (end.Faulty f) slots = x ≡ refused f
-
--- at most 49 times of 19 bits, or 56 bounds of 22, from place p on
-abbrev pub TableIs : List ℕ → ℕ → Reading (List Slot) → Table → Type 0
-TableIs s p x t = Holds s (p + 931) 49 x (t .end) (t .slots)
-
-abbrev pub PatternIs : List ℕ → ℕ → Reading (List Slot) → Pattern → Type 0
-PatternIs s p x t = Holds s (p + 1232) 56 x (t .end) (t .slots)
+  pub is : x ≡ andThen (nextRead (r .next)) (λ z q. got read q)
+  pub stored : r .slots ≡ padded nothing mostBounds read
+  pub place : InCase s most (placeOf (r .next))

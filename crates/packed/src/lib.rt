@@ -1,28 +1,30 @@
 // Reads a packed case: a bit cursor by value, fields most significant bit first, entries in file order.
 ghost use mathlib.Core.Path.{_≡_};
-ghost use Prim.Native.Nat.{ℕ, _+_, _-_, _*_, _^_, _≤_, _<_};
+ghost use Prim.Native.Nat.{ℕ, _+_, _*_, _≤_, _<_};
 ghost use mathlib.Core.List.{[]};
 ghost use lib.ListN.{length};
-ghost use Rattle.model.specs.declared.Fault.{Fault};
+ghost use Rattle.model.specs.Sizes.{boundWidth, mostBits};
+ghost use Rattle.model.specs.Conditions.{Departures};
 ghost use Rattle.model.specs.Packed;
-ghost use Rattle.model.specs.Packed.{bitAt, bits, entry, rows, bounds, fill, body, caseOf, parse};
+ghost use Rattle.model.specs.Packed.{andThen, bitAt, bits, rows, bounds, fill, body, caseOf, parse};
 ghost use Rattle.model.specs.Answers.{unpacked};
-ghost use Rattle.packed.specs.Readings.{Place, fieldRead, entryRead, endRead, TableIs, PatternIs};
+ghost use Rattle.packed.specs.Readings.{fieldRead, EntryAt, faultOf, entryOf, slotRead};
+ghost use Rattle.packed.specs.Readings.{nextRead, placeOf, From, mostTableBits, mostPatternBits, SlotsAre};
 use ints::Cycle;
 use ints::Seconds;
+use model::BOUND_LIMIT;
+use model::BOUND_WIDTH;
 use model::BOUNDS;
 use model::Case;
+use model::DEPARTURES_WIDTH;
 use model::Fault;
+use model::HORIZON_WIDTH;
 use model::Judged;
+use model::NOTHING;
 use model::Slot;
-use model::TIMES;
+use model::TIME_LIMIT;
+use model::TIME_WIDTH;
 use model::Unpacked;
-
-// No time, no bound.
-const NOTHING: Slot = Slot {
-    has: false,
-    value: Seconds(0),
-};
 
 // The place of the next bit.
 struct Cursor {
@@ -35,27 +37,44 @@ enum Field {
     Ends,
 }
 
-// An entry read, with the next cursor; the case ends within it; its value is beyond the limit.
-enum Entry {
-    Got(Slot, Cursor),
-    Ends,
-    Beyond,
+// A kind of entry: the bits of its value, the weight of the first of them, and the most that the value is in size.
+struct EntryKind {
+    width: usize,
+    half: u32,
+    limit: u64,
+    bound: bool,
 }
 
-// Where the entries of a table or a pattern end, or the first fault in them.
-enum End {
+const TIME: EntryKind = EntryKind {
+    width: TIME_WIDTH,
+    half: 1 << (TIME_WIDTH - 1),
+    limit: TIME_LIMIT,
+    bound: false,
+};
+
+const BOUND: EntryKind = EntryKind {
+    width: BOUND_WIDTH,
+    half: 1 << (BOUND_WIDTH - 1),
+    limit: BOUND_LIMIT,
+    bound: true,
+};
+
+// An entry read, with the next cursor, or its fault.
+enum SlotRead {
+    Got(Slot, Cursor),
+    Faulty(Fault),
+}
+
+// What comes next starts here, or the first fault.
+enum Next {
     At(Cursor),
     Faulty(Fault),
 }
 
-struct Table {
-    slots: [Slot; TIMES],
-    end: End,
-}
-
-struct Pattern {
+// The entries of the table or of a pattern as far as they were read.
+struct SlotsRead {
     slots: [Slot; BOUNDS],
-    end: End,
+    next: Next,
 }
 
 fn bit_at(s: &[u8], p: usize) -> u32
@@ -73,10 +92,22 @@ fn wide(x: u8) -> u32
     x as u32
 }
 
+impl EntryKind {
+    // The fault of a value beyond the limit.
+    fn fault(self, place: usize) -> Fault
+        ensures { λ r. ⌜ r ≡ faultOf self place ⌝ }
+    {
+        if self.bound {
+            return Fault::Bound(place);
+        }
+        Fault::Time(place)
+    }
+}
+
 impl Cursor {
     // Some bits as a number.
     fn bits(self, s: &[u8], width: usize) -> Field
-        requires { ⌜ (self .at ≤ 65536) × (0 < width) × (width ≤ 32) ⌝ }
+        requires { ⌜ (self .at + width ≤ mostBits) × (0 < width) × (width ≤ boundWidth) ⌝ }
         ensures { λ r. ⌜ ((first : ℕ) → fieldRead first r ≡ bits (now (s .entry)) width first (self .at)) ⌝ }
     {
         let at = self.at;
@@ -91,122 +122,112 @@ impl Cursor {
         Field::Got(v, Cursor { at: end })
     }
 
-    // An entry whose value has some bits in two's complement, half being the weight of the sign bit.
-    fn entry(self, s: &[u8], width: usize, half: u32, limit: u64) -> Entry
-        requires { ⌜ (self .at ≤ 65535) × (0 < width) × (width ≤ 24) × (half ≡ 2 ^ (width - 1)) × (limit ≤ 1000000) ⌝ }
-        ensures { λ r. ⌜ ((f : ℕ → Fault) → entryRead f (self .at) r ≡ entry (now (s .entry)) width limit f (self .at)) ⌝ }
+    // An entry: a presence bit, then its value in two's complement if that is 1.
+    fn entry(self, s: &[u8], kind: EntryKind) -> SlotRead
+        requires { ⌜ EntryAt kind (self .at) ⌝ }
+        ensures { λ r. ⌜ slotRead r ≡ entryOf kind (now (s .entry)) (self .at) ⌝ }
     {
+        let place = self.at;
         let Field::Got(bit, after_bit) = self.bits(s, 1) else {
-            return Entry::Ends;
+            return SlotRead::Faulty(Fault::CaseEnds(place));
         };
         if bit == 0 {
-            return Entry::Got(NOTHING, after_bit);
+            return SlotRead::Got(NOTHING, after_bit);
         }
-        let Field::Got(raw, next) = after_bit.bits(s, width) else {
-            return Entry::Ends;
+        let Field::Got(raw, next) = after_bit.bits(s, kind.width) else {
+            return SlotRead::Faulty(Fault::CaseEnds(place));
         };
-        let value = Seconds::of(ints::sign_extended(raw, half));
-        if value.beyond(limit) {
-            return Entry::Beyond;
+        let value = Seconds::of(ints::sign_extended(raw, kind.half));
+        if value.beyond(kind.limit) {
+            return SlotRead::Faulty(kind.fault(place));
         }
-        Entry::Got(Slot { has: true, value }, next)
+        SlotRead::Got(Slot { has: true, value }, next)
     }
 }
 
-// Where an entry of the table stands in its array.
-fn slot_at(n: usize, row: usize, column: usize) -> usize
-    requires { ⌜ (n ≤ 7) × (row < n) × (column < n) ⌝ }
-    ensures { λ r. ⌜ (r ≡ row * n + column) × (r < 49) ⌝ }
+// The table: n rows of n times. It ends at the first faulty entry or row without a time.
+fn times(s: &[u8], start: Cursor, n: usize) -> SlotsRead
+    requires { ⌜ From (now s) mostTableBits (start .at) × Departures n ⌝ }
+    ensures { λ r. ⌜ SlotsAre (now (s .entry)) (start .at + mostTableBits) (rows (now (s .entry)) n n (start .at) []) r ⌝ }
 {
-    row * n + column
-}
-
-// The table: n rows of n times of 18 bits, up to 86,400 in size. It ends at the first faulty entry or row without a time.
-fn times(s: &[u8], start: Cursor, n: usize) -> Table
-    requires { ⌜ Place (now s) 4096 (start .at) × (n ≤ 7) ⌝ }
-    ensures { λ r. ⌜ TableIs (now (s .entry)) (start .at) (rows (now (s .entry)) n n (start .at) []) r ⌝ }
-{
-    let mut slots = [NOTHING; TIMES];
+    let mut slots = [NOTHING; BOUNDS];
     let mut cursor = start;
-    let mut end = End::At(start);
+    let mut next = Next::At(start);
+    let mut k: usize = 0;
     'rows: for row in 0..n {
         let first = cursor.at;
         let mut some = false;
         for column in 0..n {
-            let k = slot_at(n, row, column);
-            let place = cursor.at;
-            match cursor.entry(s, 18, 131072, 86400) {
-                Entry::Ends => {
-                    end = End::Faulty(Fault::CaseEnds(place));
+            match cursor.entry(s, TIME) {
+                SlotRead::Faulty(f) => {
+                    next = Next::Faulty(f);
                     break 'rows;
                 }
-                Entry::Beyond => {
-                    end = End::Faulty(Fault::Time(place));
-                    break 'rows;
-                }
-                Entry::Got(slot, next) => {
+                SlotRead::Got(slot, after) => {
                     slots[k] = slot;
+                    k += 1;
                     some = some | slot.has;
-                    cursor = next;
+                    cursor = after;
                 }
             }
         }
         if !some {
-            end = End::Faulty(Fault::EmptyRow(first));
+            next = Next::Faulty(Fault::EmptyRow(first));
             break 'rows;
         }
-        end = End::At(cursor);
+        next = Next::At(cursor);
     }
-    Table { slots, end }
+    SlotsRead { slots, next }
 }
 
-// A pattern: n * (n + 1) bounds of 21 bits, up to 1,000,000 in size.
-fn pattern_of(s: &[u8], start: Cursor, n: usize) -> Pattern
-    requires { ⌜ Place (now s) 8192 (start .at) × (n ≤ 7) ⌝ }
-    ensures { λ r. ⌜ PatternIs (now (s .entry)) (start .at) (bounds (now (s .entry)) n (start .at)) r ⌝ }
+// A pattern: n * (n + 1) bounds. Where there is a fault already, it stays.
+fn bounds(s: &[u8], from: Next, n: usize) -> SlotsRead
+    requires { ⌜ From (now s) mostPatternBits (placeOf from) × Departures n ⌝ }
+    ensures { λ r. ⌜ SlotsAre (now (s .entry)) (placeOf from + mostPatternBits) (andThen (nextRead from) (λ z p. bounds (now (s .entry)) n p)) r ⌝ }
 {
     let mut slots = [NOTHING; BOUNDS];
-    let mut cursor = start;
+    let mut cursor = match from {
+        Next::Faulty(_) => return SlotsRead { slots, next: from },
+        Next::At(start) => start,
+    };
     let count = n * (n + 1);
     for i in 0..count {
-        let place = cursor.at;
-        match cursor.entry(s, 21, 1048576, 1000000) {
-            Entry::Ends => {
-                let end = End::Faulty(Fault::CaseEnds(place));
-                return Pattern { slots, end };
+        match cursor.entry(s, BOUND) {
+            SlotRead::Faulty(f) => {
+                let next = Next::Faulty(f);
+                return SlotsRead { slots, next };
             }
-            Entry::Beyond => {
-                let end = End::Faulty(Fault::Bound(place));
-                return Pattern { slots, end };
-            }
-            Entry::Got(slot, next) => {
+            SlotRead::Got(slot, after) => {
                 slots[i] = slot;
-                cursor = next;
+                cursor = after;
             }
         }
     }
-    let end = End::At(cursor);
-    Pattern { slots, end }
+    let next = Next::At(cursor);
+    SlotsRead { slots, next }
 }
 
-// Zero bits up to a whole byte, and no byte more.
-fn padding(s: &[u8], start: Cursor) -> End
-    requires { ⌜ Place (now s) 65536 (start .at) ⌝ }
-    ensures { λ r. ⌜ endRead r ≡ fill (now (s .entry)) (start .at) ⌝ }
+// Zero bits up to a whole byte, and no byte more. Where there is a fault already, it stays.
+fn padding(s: &[u8], from: Next) -> Next
+    requires { ⌜ From (now s) 0 (placeOf from) ⌝ }
+    ensures { λ r. ⌜ nextRead r ≡ andThen (nextRead from) (λ z p. fill (now (s .entry)) p) ⌝ }
 {
-    let at = start.at;
+    let at = match from {
+        Next::Faulty(_) => return from,
+        Next::At(start) => start.at,
+    };
     let count = (8 - at % 8) % 8;
     for i in 0..count {
         let place = at + i;
         if bit_at(s, place) != 0 {
-            return End::Faulty(Fault::FillBit(place));
+            return Next::Faulty(Fault::FillBit(place));
         }
     }
     let end = at + count;
     if end / 8 < s.len() {
-        return End::Faulty(Fault::ExtraByte(end));
+        return Next::Faulty(Fault::ExtraByte(end));
     }
-    End::At(Cursor { at: end })
+    Next::At(Cursor { at: end })
 }
 
 fn empty() -> Case
@@ -215,7 +236,7 @@ fn empty() -> Case
     Case {
         n: 0,
         horizon: Cycle(0),
-        times: [NOTHING; TIMES],
+        times: [NOTHING; BOUNDS],
         start: [NOTHING; BOUNDS],
         target: [NOTHING; BOUNDS],
     }
@@ -231,28 +252,16 @@ fn refused(f: Fault) -> Unpacked
 
 // What follows the two numbers.
 fn rest(s: &[u8], first: Cursor, n: usize, horizon: Cycle) -> Unpacked
-    requires { ⌜ Place (now s) 4096 (first .at) × (n ≤ 7) ⌝ }
+    requires { ⌜ From (now s) (mostTableBits + 2 * mostPatternBits) (first .at) × Departures n ⌝ }
     ensures { λ r. ⌜ r ≡ unpacked (body (now (s .entry)) n (horizon .0) (first .at)) ⌝ }
 {
     let table = times(s, first, n);
-    let table_end = table.end;
-    let after_times = match table_end {
-        End::Faulty(f) => return refused(f),
-        End::At(next) => next,
-    };
-    let from = pattern_of(s, after_times, n);
-    let from_end = from.end;
-    let after_start = match from_end {
-        End::Faulty(f) => return refused(f),
-        End::At(next) => next,
-    };
-    let to = pattern_of(s, after_start, n);
-    let to_end = to.end;
-    let after_target = match to_end {
-        End::Faulty(f) => return refused(f),
-        End::At(next) => next,
-    };
-    if let End::Faulty(f) = padding(s, after_target) {
+    let after_times = table.next;
+    let from = bounds(s, after_times, n);
+    let after_start = from.next;
+    let to = bounds(s, after_start, n);
+    let after_target = to.next;
+    if let Next::Faulty(f) = padding(s, after_target) {
         return refused(f);
     }
     let times = table.slots;
@@ -274,14 +283,14 @@ pub fn read(s: &[u8]) -> Unpacked
     ensures { λ r. ⌜ r ≡ unpacked (parse (now (s .entry))) ⌝ }
 {
     let start = Cursor { at: 0 };
-    let Field::Got(n, after_n) = start.bits(s, 3) else {
+    let Field::Got(n, after_n) = start.bits(s, DEPARTURES_WIDTH) else {
         return refused(Fault::CaseEnds(0));
     };
     if n == 0 {
         return refused(Fault::Departures);
     }
     let place = after_n.at;
-    let Field::Got(m, next) = after_n.bits(s, 6) else {
+    let Field::Got(m, next) = after_n.bits(s, HORIZON_WIDTH) else {
         return refused(Fault::CaseEnds(place));
     };
     let horizon = (m as usize) + 1;

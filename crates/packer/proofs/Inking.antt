@@ -16,18 +16,19 @@ use Rattle.model.proofs.Entries.{length-tabulate}
 use Rattle.model.proofs.Listed.{every-append, every-tabulate, at-getD}
 use Rattle.model.proofs.Tabulated.{tabulate-ext, tabulate-snoc}
 use Rattle.packer.specs.declared.Pen.{Pen}
-use Rattle.packer.specs.Ink.{bitOf, Inked, Ready, Adds, Inks, Filled}
+use Rattle.packer.specs.Ink.{bitOf, Inked, CanInk, Extends, Inks, Filled}
 use Rattle.model.proofs.Digits.{num-same, num-below}
 use Rattle.model.proofs.Bytes.{length-bytes}
-use Rattle.packer.proofs.Spelling.{num-add, field-length, field-bits, num-front, num-field}
+use Rattle.model.proofs.Spelled.{length-field}
+use Rattle.packer.proofs.Spelling.{num-add, field-bits, num-front, num-field}
 
 -- ---- nothing, and one thing behind another
-pub adds-nothing : {pen : Pen} {out : List ℕ} → pen .part < 2 ^ pen .held → Adds [] pen out pen out
-adds-nothing h = record { small = h; place = omega arith; kept = refl; inked = λ first before i. rw append-nil i }
+pub extends-nothing : {pen : Pen} {out : List ℕ} → pen .part < 2 ^ pen .held → Extends [] pen out pen out
+extends-nothing h = record { small = h; place = omega arith; kept = refl; inked = λ first before i. rw append-nil i }
 
-pub adds-then : {a b : List ℕ} {pen next last : Pen} {out mid after : List ℕ}
-    → Adds a pen out next mid → Adds b next mid last after → Adds (a ++ b) pen out last after
-adds-then {a} {b} p q = record {
+pub extends-then : {a b : List ℕ} {pen next last : Pen} {out mid after : List ℕ}
+    → Extends a pen out next mid → Extends b next mid last after → Extends (a ++ b) pen out last after
+extends-then {a} {b} p q = record {
   small = q .small;
   place = omega (arith, length-append a b);
   kept = q .kept ∙ p .kept;
@@ -36,7 +37,7 @@ adds-then {a} {b} p q = record {
 
 pub inks-then : {a b : List ℕ} {pen next last : Pen} {out mid after : List ℕ}
     → Inks a pen out next mid → Inks b next mid last after → Inks (a ++ b) pen out last after
-inks-then p q = (adds-then (p .0) (q .0), q .1)
+inks-then p q = (extends-then (p .0) (q .0), q .1)
 
 -- ---- the first pen
 abbrev pub first-pen : Pen
@@ -46,33 +47,25 @@ pub inked-first : (out : List ℕ) → Inked out [] first-pen out
 unfolding numOf tabulate
 inked-first out = record { bits = done; long = refl; spells = refl; stored = refl }
 
-pub ready-first : (bs out : List ℕ) → length (bytesOf bs) ≤ length out → Ready (length bs) first-pen out
-ready-first bs out h = record { few = omega arith; small = omega arith; room = omega (arith, length-bytes bs) }
-
--- ---- the room that is left
-pub ready-less : {m : ℕ} {pen : Pen} {out : List ℕ} (k : ℕ) → k ≤ m → Ready m pen out → Ready k pen out
-ready-less k h r = record { few = r .few; small = r .small; room = omega arith }
-
-pub ready-next : {m : ℕ} {bs : List ℕ} {pen next : Pen} {out after : List ℕ} (k : ℕ)
-    → length bs + k ≤ m → Ready m pen out → Inks bs pen out next after → Ready k next after
-ready-next k h r i = record { few = i .1; small = i .0 .small; room = omega arith }
+pub can-first : (bs out : List ℕ) → length (bytesOf bs) ≤ length out → CanInk (length bs) first-pen out
+can-first bs out h = omega (arith, length-bytes bs)
 
 -- ---- a field taken up: its bits are held behind those that were
 abbrev pub taken : Pen → ℕ → ℕ → Pen
 taken pen w v = record { full = pen .full; held = pen .held + w; part = pen .part * 2 ^ w + v }
 
 module _ (pen : Pen) (out : List ℕ) (w v : ℕ) (small : pen .part < 2 ^ pen .held) (h : v < 2 ^ w) where
-  pub adds-field : Adds (fieldBits w v) pen out (taken pen w v) out
-  adds-field = record {
+  pub extends-field : Extends (fieldBits w v) pen out (taken pen w v) out
+  extends-field = record {
     small = rw (pow-add 2 (pen .held) w) (digits-lt small h);
-    place = omega (arith, field-length w v);
+    place = omega (arith, length-field w v);
     kept = refl;
     inked = λ first before i.
         let all = before ++ fieldBits w v in
         let front = num-front before (fieldBits w v) in
         record {
           bits = every-append (i .bits) (field-bits w v);
-          long = omega (arith, i .long, length-append before (fieldBits w v), field-length w v);
+          long = omega (arith, i .long, length-append before (fieldBits w v), length-field w v);
           spells =
               let held = i .spells ∙ sym (front (8 * pen .full) (pen .held) (omega (arith, i .long))) in
               let more = rw (← (i .long)) at (sym (num-field before w v h)) in
@@ -96,8 +89,8 @@ abbrev pub rest : Pen → ℕ → Pen
 rest pen r = record { full = pen .full + 1; held = r; part = pen .part % 2 ^ r }
 
 module _ (pen : Pen) (out : List ℕ) (r : ℕ) (e : pen .held ≡ 8 + r) (room : pen .full < length out) where
-  pub adds-byte : Adds [] pen out (rest pen r) (set out (pen .full) (pen .part / 2 ^ r))
-  adds-byte = record {
+  pub extends-byte : Extends [] pen out (rest pen r) (set out (pen .full) (pen .part / 2 ^ r))
+  extends-byte = record {
     small = mod-lt (pen .part) (pow-pos r);
     place = omega arith;
     kept = length-set out (pen .full) (pen .part / 2 ^ r);
@@ -123,14 +116,14 @@ zeros-behind (b ∷ bs) w zero = refl
 zeros-behind (b ∷ bs) w (suc q) = zeros-behind bs w q
 
 -- so many bits fill up the byte of which some are held
-abbrev pub missing : ℕ → ℕ
-missing held = (8 - held) % 8
+abbrev pub unfilled : ℕ → ℕ
+unfilled held = (8 - held) % 8
 
-pub fills : (pen next : Pen) (out after : List ℕ) → pen .held < 8 → Inks (fieldBits (missing (pen .held)) 0) pen out next after → Filled pen out after
+pub fills : (pen next : Pen) (out after : List ℕ) → pen .held < 8 → Inks (fieldBits (unfilled (pen .held)) 0) pen out next after → Filled pen out after
 unfolding bytesOf
 fills pen next out after few h first bs i =
-    let w = missing (pen .held) in
+    let w = unfilled (pen .held) in
     let j = h .0 .inked first bs i in
-    let e : next .full ≡ (length bs + 7) / 8 = omega (arith, i .long, j .long, length-append bs (fieldBits w 0), field-length w 0) in
+    let e : next .full ≡ (length bs + 7) / 8 = omega (arith, i .long, j .long, length-append bs (fieldBits w 0), length-field w 0) in
     j .stored ∙ rw (length-bytes bs, ← e) (ap (λ (x : List ℕ). x ++ drop (next .full) first)
     (tabulate-ext (next .full) 0 _ _ (λ k l u. num-same _ _ (8 * k) (8 * k) 8 (λ m g. zeros-behind bs w (8 * k + m)))))

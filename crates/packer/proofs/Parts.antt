@@ -4,9 +4,9 @@ use native.Mathlib.Omega.{arith}
 use native.Mathlib.Nat.{pow-suc}
 use native.Mathlib.Numerals.{add-one}
 use borrow.Author.Tests.{ltb-false}
-use mathlib.Core.Path.{_≡_, refl, sym, ap, _∙_}
+use mathlib.Core.Path.{_≡_, refl, ap, _∙_}
 use mathlib.Core.Bool.{true, false}
-use mathlib.Core.List.{List, [], _∷_, _++_, flatMap, append-assoc, append-nil}
+use mathlib.Core.List.{List, [], _∷_, _++_, flatMap, append-nil}
 use lib.Dec.{ltb}
 use lib.IntN.{ℤ, pos, negsuc, natAbs}
 use lib.Pow.{pow-pos}
@@ -18,7 +18,8 @@ use Rattle.model.specs.Faults.{nothing, beyond}
 use Rattle.model.specs.Writing.{Kind, fieldBits, rawOf, entryBits, entriesBits}
 use Rattle.model.proofs.Listed.{at-getD}
 use Rattle.packer.specs.Ink.{ofWidth, Narrow, AllIn}
-use Rattle.packer.proofs.Spelling.{field-length}
+use Rattle.model.proofs.Inverse.{bits-append}
+use Rattle.model.proofs.Spelled.{length-field}
 
 -- ---- an entry
 -- the number of a value is below twice the weight of the sign
@@ -38,10 +39,10 @@ module _ (w : ℕ) (e : Slot) where
 
   -- how long it is
   pub present-length : e .has ≡ true → length (entryBits (ofWidth w) e) ≡ 1 + w
-  present-length h = rw (entry-present h) (simp (length-append, field-length))
+  present-length h = rw (entry-present h) (simp (length-append, length-field))
 
   pub absent-length : e .has ≡ false → length (entryBits (ofWidth w) e) ≡ 1
-  absent-length h = rw (entry-absent h) (field-length 1 0)
+  absent-length h = rw (entry-absent h) (length-field 1 0)
 
   -- its number has w bits
   module _ (narrow : Narrow w e) (h : e .has ≡ true) where
@@ -57,19 +58,13 @@ module _ (w : ℕ) (e : Slot) where
 
 -- ---- entries
 module _ (k : Kind Slot) where
-  -- those of two lists
-  pub entries-append : (ds es : List Slot) → entriesBits k (ds ++ es) ≡ entriesBits k ds ++ entriesBits k es
-  unfolding entriesBits flatMap
-  entries-append [] es = refl
-  entries-append (d ∷ ds) es = ap (λ (x : List ℕ). entryBits k d ++ x) (entries-append ds es) ∙ sym (append-assoc (entryBits k d) _ _)
-
   -- one more
   pub entries-next : (es : List Slot) (i : ℕ) → i < length es
       → entriesBits k (take (i + 1) es) ≡ entriesBits k (take i es) ++ entryBits k (getD es i nothing)
   unfolding entriesBits flatMap
   entries-next es i h =
       let e = getD es i nothing in
-      rw (add-one, take-suc es i nothing h, entries-append (take i es) (e ∷ []))
+      rw (add-one, take-suc es i nothing h, bits-append k (take i es) (e ∷ []))
       (ap (λ (x : List ℕ). entriesBits k (take i es) ++ x) (append-nil (entryBits k e)))
 
   -- the bits of the first i and of the next one are no more than those of the first n
@@ -78,8 +73,8 @@ module _ (k : Kind Slot) where
   entries-room es i n h l =
       let m = i + 1 in
       let e : n ≡ m + (n - m) = omega arith in
-      let parts = ap (entriesBits k) (take-add m (n - m) es) ∙ entries-append (take m es) (take (n - m) (drop m es)) in
-      let all = ap (λ (j : ℕ). entriesBits k (take j es)) e ∙ parts in
+      let both = ap (λ (j : ℕ). take j es) e ∙ take-add m (n - m) es in
+      let all = ap (entriesBits k) both ∙ bits-append k (take m es) (take (n - m) (drop m es)) in
       omega (arith, simp length-append at (ap length (entries-next es i h)), simp length-append at (ap length all))
 
 -- one of the first count

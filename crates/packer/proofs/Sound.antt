@@ -1,69 +1,63 @@
 -- A case without a fault: what it keeps to, and its bits part by part.
-use Prim.Native.Nat.{ℕ, _+_, _-_, _*_, _≤_}
-use native.Mathlib.Nat.{mul-le-mul}
+use Prim.Native.Nat.{ℕ, _+_}
 use native.Mathlib.Omega.{arith}
-use mathlib.Core.Path.{_≡_, sym, ap}
+use mathlib.Core.Path.{_≡_, ap}
 use mathlib.Core.Option.{none}
 use mathlib.Core.List.{List, _++_}
 use lib.ListN.{length, take, length-append}
-use lib.Seq.{take-take}
+use Rattle.model.specs.Sizes.{boundLimit, tableSize, patternSize, timeWidth, boundWidth}
 use Rattle.model.specs.declared.Slot.{Slot}
 use Rattle.model.specs.declared.Case.{Case}
 use Rattle.model.specs.Lists.{Every}
-use Rattle.model.specs.Conditions.{InLimit}
-use Rattle.model.specs.Faults.{patternSize, outside, tableFault, patternsFault, caseFault}
-use Rattle.model.specs.Writing.{fieldBits, entryBits, entriesBits, timeKind, boundKind, caseBits}
+use Rattle.model.specs.Conditions.{Departures, InLimit}
+use Rattle.model.specs.Faults.{outside, tableFault, patternsFault, caseFault}
+use Rattle.model.specs.Writing.{entryBits, entriesBits, boundKind, caseBits}
+use Rattle.model.proofs.Inverse.{bits-append}
 use Rattle.model.proofs.Listed.{every-map}
 use Rattle.model.proofs.Limits.{no-fault, wider-limit, rows-in}
-use Rattle.judge.proofs.Laws.{few-case}
-use Rattle.packer.specs.Ink.{ofWidth, AllIn, patternsBits, Horizon}
-use Rattle.packer.proofs.Parts.{entries-append}
+use Rattle.model.proofs.Places.{table-fits, pattern-fits}
+use Rattle.judge.proofs.Laws.{case-departures}
+use Rattle.packer.specs.Ink.{ofWidth, AllIn, headBits, patternsBits, Horizon}
 
--- the case keeps to its limits, and the slots hold its table
-pub record Sound (c : Case) (slots : List Slot) : Type 0 where
-  pub few : c .n ≤ 7
+-- the bits of the table
+abbrev pub tableBits : Case → List ℕ
+tableBits c = entriesBits (ofWidth timeWidth) (take (tableSize (c .n)) (c .times))
+
+-- and of the bounds
+abbrev pub boundsBits : Case → List ℕ
+boundsBits c = patternsBits (patternSize (c .n)) (c .start) (c .target)
+
+-- the case keeps to its limits
+pub record Sound (c : Case) : Type 0 where
+  pub departures : Departures (c .n)
   pub horizon : Horizon (c .horizon .0)
-  pub times : AllIn 18 (c .n * c .n) slots
-  pub start : AllIn 21 (patternSize (c .n)) (c .start)
-  pub target : AllIn 21 (patternSize (c .n)) (c .target)
+  pub times : AllIn timeWidth (tableSize (c .n)) (c .times)
+  pub start : AllIn boundWidth (patternSize (c .n)) (c .start)
+  pub target : AllIn boundWidth (patternSize (c .n)) (c .target)
 
-module _ (c : Case) (slots : List Slot) (h : caseFault c ≡ none) (table : take 49 slots ≡ c .times) where
-  few : c .n ≤ 7
-  few = few-case c h
+module _ (c : Case) (h : caseFault c ≡ none) where
+  bounded : {bounds : List Slot} → Every (InLimit boundLimit) (take (patternSize (c .n)) bounds) → AllIn boundWidth (patternSize (c .n)) bounds
+  bounded small = record { within = pattern-fits (case-departures c h); narrow = every-map (wider-limit (omega arith)) small }
 
-  squares : c .n * c .n ≤ 49
-  squares = mul-le-mul few few
-
-  same-table : take (c .n * c .n) slots ≡ take (c .n * c .n) (c .times)
-  same-table = rw (← table) (sym (take-take (c .n * c .n) 49 slots squares))
-
-  bounded : {bounds : List Slot} → Every (InLimit 1000000) (take (patternSize (c .n)) bounds) → AllIn 21 (patternSize (c .n)) bounds
-  bounded small =
-      let next : c .n + 1 ≤ 8 = omega (arith, few) in
-      record { within = mul-le-mul few next; narrow = every-map (wider-limit (omega arith)) small }
-
-  pub sound : Sound c slots
+  pub sound : Sound c
   unfolding caseFault tableFault patternsFault outside
   sound =
       let facts = simp no-fault at h in
+      let n = case-departures c h in
       record {
-        few = few;
+        departures = n;
         horizon = omega arith;
-        times = record { within = omega (arith, squares); narrow = rw same-table (every-map (wider-limit (omega arith)) (rows-in (facts .0 .1 .1))) };
+        times = record { within = omega (arith, table-fits n); narrow = every-map (wider-limit (omega arith)) (rows-in (facts .0 .1 .1)) };
         start = bounded (facts .1 .0);
         target = bounded (facts .1 .1);
       }
 
-  pub case-bits : caseBits c ≡
-      fieldBits 3 (c .n) ++ fieldBits 6 (c .horizon .0 - 1) ++ entriesBits (ofWidth 18) (take (c .n * c .n) slots)
-      ++ patternsBits (patternSize (c .n)) (c .start) (c .target)
+module _ (c : Case) where
+  pub case-bits : caseBits c ≡ headBits (c .n) (c .horizon .0) ++ tableBits c ++ boundsBits c
   unfolding caseBits entriesBits entryBits
   case-bits =
-      let front = fieldBits 3 (c .n) ++ fieldBits 6 (c .horizon .0 - 1) ++ entriesBits timeKind (take (c .n * c .n) (c .times)) in
       let size = patternSize (c .n) in
-      rw same-table (ap (λ (x : List ℕ). front ++ x) (entries-append boundKind (take size (c .start)) (take size (c .target))))
+      ap (λ (x : List ℕ). headBits (c .n) (c .horizon .0) ++ tableBits c ++ x) (bits-append boundKind (take size (c .start)) (take size (c .target)))
 
-  pub case-length : length (caseBits c) ≡
-      length (fieldBits 3 (c .n) ++ fieldBits 6 (c .horizon .0 - 1)) + length (entriesBits (ofWidth 18) (take (c .n * c .n) slots))
-      + length (patternsBits (patternSize (c .n)) (c .start) (c .target))
+  pub case-length : length (caseBits c) ≡ length (headBits (c .n) (c .horizon .0)) + length (tableBits c) + length (boundsBits c)
   case-length = rw case-bits (simp length-append)

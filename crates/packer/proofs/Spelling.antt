@@ -10,7 +10,7 @@ use lib.Seq.{getD-append-add}
 use Rattle.model.specs.Lists.{Every}
 use Rattle.model.specs.Packed.{numOf}
 use Rattle.model.specs.Writing.{fieldBits}
-use Rattle.model.proofs.Entries.{length-tabulate, getD-tabulate}
+use Rattle.model.proofs.Entries.{getD-tabulate}
 use Rattle.model.proofs.Listed.{every-tabulate}
 use Rattle.model.proofs.Digits.{num-same, spelled}
 use Rattle.packer.specs.Ink.{bitOf}
@@ -29,10 +29,6 @@ num-add f p a (suc b) =
     rw (e, q, num-add f p a b, pow-suc 2 b) (omega (arith, mul-assoc (numOf f p a) (2 ^ b) 2))
 
 -- ---- the bits of a field
-pub field-length : (w v : ℕ) → length (fieldBits w v) ≡ w
-unfolding fieldBits
-field-length w v = length-tabulate w 0 _
-
 pub field-bits : (w v : ℕ) → Every (λ b. b ≤ 1) (fieldBits w v)
 unfolding fieldBits
 field-bits w v = every-tabulate w 0 _ (λ i l. omega arith)

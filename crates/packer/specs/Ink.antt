@@ -3,11 +3,12 @@ use mathlib.Core.Path.{_≡_}
 use Prim.Native.Nat.{ℕ, _+_, _-_, _*_, _^_, _≤_, _<_}
 use mathlib.Core.List.{List, _++_}
 use lib.ListN.{length, getD, take, drop}
+use Rattle.model.specs.Sizes.{mostCycles, mostBounds, departuresWidth, horizonWidth, boundWidth}
 use Rattle.model.specs.declared.Slot.{Slot}
 use Rattle.model.specs.declared.Fault.the-variants as fault
 use Rattle.model.specs.Lists.{tabulate, Every}
 use Rattle.model.specs.Packed.{numOf}
-use Rattle.model.specs.Writing.{Kind, slotKind, bytesOf, entriesBits}
+use Rattle.model.specs.Writing.{Kind, slotKind, fieldBits, bytesOf, entriesBits}
 use Rattle.model.specs.Conditions.{InLimit}
 use Rattle.packer.specs.declared.Pen.{Pen}
 
@@ -30,13 +31,13 @@ pub record Inked (first bs : List ℕ) (pen : Pen) (out : List ℕ) : Type 0 whe
   pub stored : out ≡ bytesIn bs (pen .full) ++ drop (pen .full) first
 
 -- the pen holds less than a byte, and the output has room for count bits more
-pub record Ready (count : ℕ) (pen : Pen) (out : List ℕ) : Type 0 where
+pub record CanInk (count : ℕ) (pen : Pen) (out : List ℕ) : Type 0 where
   pub few : pen .held < 8
   pub small : pen .part < 2 ^ pen .held
   pub room : 8 * pen .full + pen .held + count ≤ 8 * length out
 
 -- from one pen and output to the next, bs is written behind what was
-pub record Adds (bs : List ℕ) (pen : Pen) (out : List ℕ) (next : Pen) (after : List ℕ) : Type 0 where
+pub record Extends (bs : List ℕ) (pen : Pen) (out : List ℕ) (next : Pen) (after : List ℕ) : Type 0 where
   pub small : next .part < 2 ^ next .held
   pub place : 8 * next .full + next .held ≡ 8 * pen .full + pen .held + length bs
   pub kept : length after ≡ length out
@@ -44,7 +45,7 @@ pub record Adds (bs : List ℕ) (pen : Pen) (out : List ℕ) (next : Pen) (after
 
 -- so that less than a byte is held again
 abbrev pub Inks : List ℕ → Pen → List ℕ → Pen → List ℕ → Type 0
-Inks bs pen out next after = Adds bs pen out next after × (next .held < 8)
+Inks bs pen out next after = Extends bs pen out next after × (next .held < 8)
 
 -- the output holds the bytes of the bits that were written
 abbrev pub Filled : Pen → List ℕ → List ℕ → Type 0
@@ -56,9 +57,9 @@ abbrev pub ofWidth : ℕ → Kind Slot
 ofWidth width = slotKind width 0 fault.Time
 
 -- the widths of values that the pen takes
-pub record Width (width : ℕ) : Type 0 where
+pub record FieldWidth (width : ℕ) : Type 0 where
   pub some : 0 < width
-  pub few : width ≤ 24
+  pub few : width ≤ boundWidth
 
 -- the value of an entry has so many bits
 abbrev pub Narrow : ℕ → Slot → Type 0
@@ -66,14 +67,18 @@ Narrow width e = InLimit (2 ^ (width - 1) - 1) e
 
 -- the first count entries of an array
 pub record AllIn (width count : ℕ) (slots : List Slot) : Type 0 where
-  pub within : count ≤ 56
+  pub within : count ≤ mostBounds
   pub narrow : Every (Narrow width) (take count slots)
+
+-- the bits of the two numbers in front
+abbrev pub headBits : ℕ → ℕ → List ℕ
+headBits n h = fieldBits departuresWidth n ++ fieldBits horizonWidth (h - 1)
 
 -- the bits of the start's bounds and of the target's, size of each
 abbrev pub patternsBits : ℕ → List Slot → List Slot → List ℕ
-patternsBits size start target = entriesBits (ofWidth 21) (take size start) ++ entriesBits (ofWidth 21) (take size target)
+patternsBits size start target = entriesBits (ofWidth boundWidth) (take size start) ++ entriesBits (ofWidth boundWidth) (take size target)
 
 -- ---- the horizons that have a field
 pub record Horizon (h : ℕ) : Type 0 where
   pub some : 0 < h
-  pub few : h ≤ 64
+  pub few : h ≤ mostCycles

@@ -5,23 +5,25 @@ ghost use mathlib.Core.Option.{none};
 ghost use Prim.Native.Nat.{_+_, _-_, _*_, _^_, _≤_, _<_};
 ghost use lib.ListN.{length, take, drop};
 ghost use lib.IntN.{natAbs};
+ghost use Rattle.model.specs.Sizes.{mostDepartures, mostBounds, departuresWidth, horizonWidth, boundWidth};
 ghost use Rattle.model.specs.Faults.{caseFault};
-ghost use Rattle.model.specs.Writing.{fieldBits, rawOf, entryBits, entriesBits, caseBits, packedBytes, writeFault, told, outputAfter};
-ghost use Rattle.packer.specs.Ink.{Ready, Inks, Filled, Horizon, ofWidth, Width, Narrow, AllIn, patternsBits};
+ghost use Rattle.model.specs.Writing.{fieldBits, rawOf, entryBits, entriesBits, caseBits, packedBytes, Whole, WriteGiven};
+ghost use Rattle.packer.specs.Ink.{CanInk, Inks, Filled, Horizon, ofWidth, FieldWidth, Narrow, AllIn, headBits, patternsBits};
 use ints::Cycle;
 use ints::Seconds;
+use model::BOUND_WIDTH;
 use model::BOUNDS;
 use model::Case;
+use model::DEPARTURES_WIDTH;
 use model::Fault;
+use model::HORIZON_WIDTH;
 use model::Judged;
 use model::Slot;
-use model::TIMES;
+use model::TIME_WIDTH;
 use model::Written;
 
-const NOTHING: Slot = Slot {
-    has: false,
-    value: Seconds(0),
-};
+// The bits of n and of N - 1.
+const HEAD_WIDTH: usize = DEPARTURES_WIDTH + HORIZON_WIDTH;
 
 // How far the writing got: the bytes that are full, how many bits are held for the next one, and the number that these spell.
 struct Pen {
@@ -46,7 +48,7 @@ fn raw(value: Seconds, half: u32) -> u32
 impl Pen {
     // The bits of a number. Each byte that is full is stored.
     fn bits(self, out: &mut [u8], width: usize, value: u32) -> Pen
-        requires { ⌜ Ready width self (now out) × (width ≤ 24) × (value < 2 ^ width) ⌝ }
+        requires { ⌜ CanInk width self (now out) × (width ≤ boundWidth) × (value < 2 ^ width) ⌝ }
         ensures { λ r. ⌜ Inks (fieldBits width value) self (now (out .entry)) r (now (out .exit)) ⌝ }
     {
         let mut full = self.full;
@@ -63,7 +65,7 @@ impl Pen {
 
     // An entry: a presence bit, then the value if it is 1.
     fn entry(self, out: &mut [u8], slot: Slot, width: usize) -> Pen
-        requires { ⌜ Ready (length (entryBits (ofWidth width) slot)) self (now out) × Width width × Narrow width slot ⌝ }
+        requires { ⌜ CanInk (length (entryBits (ofWidth width) slot)) self (now out) × FieldWidth width × Narrow width slot ⌝ }
         ensures { λ r. ⌜ Inks (entryBits (ofWidth width) slot) self (now (out .entry)) r (now (out .exit)) ⌝ }
     {
         if !slot.has {
@@ -77,7 +79,7 @@ impl Pen {
 
     // The first entries of an array, one after the other.
     fn entries(self, out: &mut [u8], slots: [Slot; BOUNDS], count: usize, width: usize) -> Pen
-        requires { ⌜ Ready (length (entriesBits (ofWidth width) (take count slots))) self (now out) × Width width × AllIn width count slots ⌝ }
+        requires { ⌜ CanInk (length (entriesBits (ofWidth width) (take count slots))) self (now out) × FieldWidth width × AllIn width count slots ⌝ }
         ensures { λ r. ⌜ Inks (entriesBits (ofWidth width) (take count slots)) self (now (out .entry)) r (now (out .exit)) ⌝ }
     {
         let mut pen = self;
@@ -90,11 +92,11 @@ impl Pen {
 
     // The two numbers in front.
     fn head(self, out: &mut [u8], n: usize, horizon: Cycle) -> Pen
-        requires { ⌜ Ready 9 self (now out) × (n < 8) × Horizon (horizon .0) ⌝ }
-        ensures { λ r. ⌜ Inks (fieldBits 3 n ++ fieldBits 6 (horizon .0 - 1)) self (now (out .entry)) r (now (out .exit)) ⌝ }
+        requires { ⌜ CanInk (departuresWidth + horizonWidth) self (now out) × (n ≤ mostDepartures) × Horizon (horizon .0) ⌝ }
+        ensures { λ r. ⌜ Inks (headBits n (horizon .0)) self (now (out .entry)) r (now (out .exit)) ⌝ }
     {
-        let pen = self.bits(out, 3, n as u32);
-        pen.bits(out, 6, (horizon.0 - 1) as u32)
+        let pen = self.bits(out, DEPARTURES_WIDTH, n as u32);
+        pen.bits(out, HORIZON_WIDTH, (horizon.0 - 1) as u32)
     }
 
     // The bounds of the start, then those of the target.
@@ -105,16 +107,16 @@ impl Pen {
         target: [Slot; BOUNDS],
         size: usize,
     ) -> Pen
-        requires { ⌜ Ready (length (patternsBits size start target)) self (now out) × AllIn 21 size start × AllIn 21 size target ⌝ }
+        requires { ⌜ CanInk (length (patternsBits size start target)) self (now out) × AllIn boundWidth size start × AllIn boundWidth size target ⌝ }
         ensures { λ r. ⌜ Inks (patternsBits size start target) self (now (out .entry)) r (now (out .exit)) ⌝ }
     {
-        let pen = self.entries(out, start, size, 21);
-        pen.entries(out, target, size, 21)
+        let pen = self.entries(out, start, size, BOUND_WIDTH);
+        pen.entries(out, target, size, BOUND_WIDTH)
     }
 
     // Zero bits up to a whole byte.
     fn fill(self, out: &mut [u8])
-        requires { ⌜ Ready 0 self (now out) ⌝ }
+        requires { ⌜ CanInk 0 self (now out) ⌝ }
         ensures { λ _. ⌜ Filled self (now (out .entry)) (now (out .exit)) ⌝ }
     {
         let held = self.held;
@@ -124,16 +126,16 @@ impl Pen {
 
 // The bits that an entry takes.
 fn entry_length(slot: Slot, width: usize) -> usize
-    requires { ⌜ width ≤ 24 ⌝ }
-    ensures { λ r. ⌜ (r ≡ length (entryBits (ofWidth width) slot)) × (r ≤ 25) ⌝ }
+    requires { ⌜ width ≤ boundWidth ⌝ }
+    ensures { λ r. ⌜ (r ≡ length (entryBits (ofWidth width) slot)) × (r ≤ 1 + boundWidth) ⌝ }
 {
     if slot.has { 1 + width } else { 1 }
 }
 
 // The bits that the first entries of an array take.
 fn entries_length(slots: [Slot; BOUNDS], count: usize, width: usize) -> usize
-    requires { ⌜ (count ≤ 56) × (width ≤ 24) ⌝ }
-    ensures { λ r. ⌜ (r ≡ length (entriesBits (ofWidth width) (take count slots))) × (r ≤ 25 * count) ⌝ }
+    requires { ⌜ (count ≤ mostBounds) × (width ≤ boundWidth) ⌝ }
+    ensures { λ r. ⌜ (r ≡ length (entriesBits (ofWidth width) (take count slots))) × (r ≤ (1 + boundWidth) * count) × (length slots ≡ mostBounds) ⌝ }
 {
     let mut total: usize = 0;
     for i in 0..count {
@@ -143,33 +145,20 @@ fn entries_length(slots: [Slot; BOUNDS], count: usize, width: usize) -> usize
     total
 }
 
-// The table's entries in an array as long as a pattern's.
-fn widened(times: [Slot; TIMES]) -> [Slot; BOUNDS]
-    ensures { λ r. ⌜ take 49 r ≡ times ⌝ }
-{
-    let mut slots = [NOTHING; BOUNDS];
-    for i in 0..TIMES {
-        let slot = times[i];
-        slots[i] = slot;
-    }
-    slots
-}
-
 // The bits of a case.
 fn case_length(case: Case) -> usize
     requires { ⌜ caseFault case ≡ none ⌝ }
-    ensures { λ r. ⌜ (r ≡ length (caseBits case)) × (r ≤ 8192) ⌝ }
+    ensures { λ r. ⌜ (r ≡ length (caseBits case)) × Whole case ⌝ }
 {
-    let table = case.times;
-    let times = widened(table);
     let n = case.n;
     let size = n * (n + 1);
+    let times = case.times;
     let start = case.start;
     let target = case.target;
-    9
-        + entries_length(times, n * n, 18)
-        + entries_length(start, size, 21)
-        + entries_length(target, size, 21)
+    HEAD_WIDTH
+        + entries_length(times, n * n, TIME_WIDTH)
+        + entries_length(start, size, BOUND_WIDTH)
+        + entries_length(target, size, BOUND_WIDTH)
 }
 
 // The packed bytes of a case without a fault, for which the output has room.
@@ -177,11 +166,10 @@ fn put_case(case: Case, out: &mut [u8])
     requires { ⌜ (caseFault case ≡ none) × (length (packedBytes case) ≤ length (now out)) ⌝ }
     ensures { λ _. ⌜ now (out .exit) ≡ packedBytes case ++ drop (length (packedBytes case)) (now (out .entry)) ⌝ }
 {
-    let table = case.times;
-    let times = widened(table);
     let n = case.n;
     let horizon = case.horizon;
     let size = n * (n + 1);
+    let times = case.times;
     let start = case.start;
     let target = case.target;
     let pen = Pen {
@@ -190,15 +178,14 @@ fn put_case(case: Case, out: &mut [u8])
         part: 0,
     };
     let after_head = pen.head(out, n, horizon);
-    let after_times = after_head.entries(out, times, n * n, 18);
+    let after_times = after_head.entries(out, times, n * n, TIME_WIDTH);
     let after_patterns = after_times.patterns(out, start, target, size);
     after_patterns.fill(out);
 }
 
 // The packed bytes of a case in front of the output, and how many they are. What stands behind them stays as it was; on a fault everything does.
 pub fn write(case: Case, out: &mut [u8]) -> Written
-    ensures { λ r. ⌜ r ≡ told (writeFault case (length (now (out .entry)))) (packedBytes case) ⌝ }
-    ensures { λ _. ⌜ now (out .exit) ≡ outputAfter (writeFault case (length (now (out .entry)))) (packedBytes case) (now (out .entry)) ⌝ }
+    ensures { λ r. ⌜ WriteGiven case (now (out .entry)) r (now (out .exit)) ⌝ }
 {
     if let Judged::Refused(f) = judge::case_fault(case) {
         return Written::Refused(f);

@@ -1,6 +1,5 @@
--- Laws of sizes, products, slots and the search for a repeated power, which the proofs of the functions cite.
+-- Laws of sizes, of tables of slots, of the array of powers and of the search for a repeated power.
 pub mod Bounded
-pub mod Products
 pub mod Places
 pub mod Holding
 pub mod Searching

@@ -1,2 +1,2 @@
--- How the arrays and the answer are read.
+-- How the answer is read, and the condition of a product.
 pub mod Readings

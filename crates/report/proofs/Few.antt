@@ -4,6 +4,7 @@ use native.Mathlib.Omega.{arith}
 use mathlib.Core.Path.{_≡_, refl}
 use mathlib.Core.List.{List}
 use mathlib.Core.Option.{Option, none, some}
+use Rattle.model.specs.Sizes.{mostDepartures}
 use Rattle.model.specs.declared.Case.{Case}
 use Rattle.model.specs.declared.Fault.{Fault}
 use Rattle.model.specs.declared.Verdict.{Verdict}
@@ -16,10 +17,11 @@ use Rattle.model.proofs.Limits.{no-fault, limits-of}
 use Rattle.model.proofs.Parsed.{parsed}
 use Rattle.model.proofs.DemandsHold.{demand2, answer-refused}
 use Rattle.report.specs.Text.{lineCount}
+use Rattle.report.specs.Lengths.{mostLines}
 
 module _ (c : Case) (capacity size : ℕ) where
   -- a cycle that is reached is at most the horizon
-  reached-few : InLimits c capacity size → (v : Verdict) → answer c capacity size .verdict ≡ v → lineCount v ≤ 65
+  reached-few : InLimits c capacity size → (v : Verdict) → answer c capacity size .verdict ≡ v → lineCount v ≤ mostLines
   unfolding lineCount network
   reached-few l (verdict.Reached k) e =
       let first = demand2 c capacity size l .first (k .0) e in
@@ -28,15 +30,15 @@ module _ (c : Case) (capacity size : ℕ) where
   reached-few l verdict.Never e = omega arith
   reached-few l (verdict.Refused f) e = omega arith
 
-  few-lines : (o : Option Fault) → callFault c capacity size ≡ o → lineCount (answer c capacity size .verdict) ≤ 65
+  few-lines : (o : Option Fault) → callFault c capacity size ≡ o → lineCount (answer c capacity size .verdict) ≤ mostLines
   unfolding lineCount
   few-lines none e = reached-few e _ refl
   few-lines (some f) e = rw (answer-refused c capacity size f e) (omega arith)
 
 module _ (s : List ℕ) (capacity size : ℕ) where
   pub record Few : Type 0 where
-    pub departures : unpacked (parse s) .case .n ≤ 7
-    pub cycles : lineCount (answerPacked s capacity size .verdict) ≤ 65
+    pub departures : unpacked (parse s) .case .n ≤ mostDepartures
+    pub cycles : lineCount (answerPacked s capacity size .verdict) ≤ mostLines
 
   few-of : (r : Reading Case) → parse s ≡ r → Few
   unfolding answerPacked lineCount caseFault tableFault outside

@@ -1,5 +1,3 @@
-pub mod Writing
-pub mod Digits
 pub mod Parts
 pub mod Few
 pub mod LongInput

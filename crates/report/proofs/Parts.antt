@@ -27,4 +27,6 @@ fields-next xs i h =
 
 pub lines-next : (c : Case) (start : List Seconds) (j : ℕ) → lines c start (j + 1) ≡ lines c start j ++ lineOf c start j
 unfolding lines
-lines-next c start j = let e : 0 + j ≡ j = omega arith in rw (add-one, ← (tabulate-snoc j 0 (lineOf c start)), e) (flatten-snoc (tabulate j 0 (lineOf c start)) (lineOf c start j))
+lines-next c start j =
+    let e : 0 + j ≡ j = omega arith in
+    rw (add-one, ← (tabulate-snoc j 0 (lineOf c start)), e) (flatten-snoc (tabulate j 0 (lineOf c start)) (lineOf c start j))

@@ -6,6 +6,8 @@ use mathlib.Core.List.{List, map}
 use mathlib.Core.Option.{Option, none, some}
 use lib.ListN.{take, length-map}
 use lib.Seq.{take-at}
+use Rattle.model.specs.Sizes.{mostCycles}
+use Rattle.ints.proofs.Integers.{impossible}
 use Rattle.model.specs.declared.Case.{Case}
 use Rattle.model.specs.declared.Fault.{Fault}
 use Rattle.model.specs.declared.Verdict.the-variants as verdict
@@ -17,7 +19,7 @@ use Rattle.model.specs.Demands.{InLimits}
 use Rattle.model.proofs.Cycles.{length-cycles}
 use Rattle.model.proofs.DemandsHold.{answer-refused, demand2}
 use Rattle.model.proofs.Runs.{start-runs}
-use Rattle.report.specs.Text.{line, lineOf, lineCount}
+use Rattle.report.specs.Text.{line, lineOf, lineCount, programZones, programSpace}
 use Rattle.report.proofs.Few.{few}
 
 -- a case that is reached is within the limits
@@ -26,7 +28,7 @@ reached-in c capacity size k e = go (callFault c capacity size) refl
   where
     go : (o : Option Fault) → callFault c capacity size ≡ o → InLimits c capacity size
     go none h = h
-    go (some f) h = let w = rw (answer-refused c capacity size f h) at e in let z : _≡_ {A = ℕ} 0 1 = cc in absurd (omega arith)
+    go (some f) h = let w = rw (answer-refused c capacity size f h) at e in impossible cc
 
 -- the answer to bytes that hold a case
 answer-read : (s : List ℕ) (c : Case) (q capacity size : ℕ) → parse s ≡ got c q → answerPacked s capacity size ≡ answer c capacity size
@@ -34,22 +36,22 @@ unfolding answerPacked
 answer-read s c q capacity size p = rw (p, answerPacked) refl
 
 -- a verdict that is reached is so at cycle 64 at the latest
-cycle-few : (s : List ℕ) (k : ℕ) → answerPacked s 128 16384 .verdict ≡ verdict.Reached (cycleNumber k) → k ≤ 64
+cycle-few : (s : List ℕ) (k : ℕ) → answerPacked s programZones programSpace .verdict ≡ verdict.Reached (cycleNumber k) → k ≤ mostCycles
 unfolding lineCount
-cycle-few s k e = let l = rw e at (few s 128 16384 .cycles) in omega arith
+cycle-few s k e = let l = rw e at (few s programZones programSpace .cycles) in omega arith
 
 -- the line of cycle j
 pub line-shows : (s : List ℕ) (c : Case) (q k j : ℕ) → parse s ≡ got c q
-    → let r = answerPacked s 128 16384 in
+    → let r = answerPacked s programZones programSpace in
     r .verdict ≡ verdict.Reached (cycleNumber k) → j ≤ k
     → lineOf c (r .start) j ≡ line j (map seconds (cycles (c .n) (network c .times) j (map (λ x. x .0) (take (c .n) (r .start)))))
 unfolding network
 line-shows s c q k j p e h =
-    let is = answer-read s c q 128 16384 p in
+    let is = answer-read s c q programZones programSpace p in
     let reached = rw is at e in
-    let limits = reached-in c 128 16384 k reached in
+    let limits = reached-in c programZones programSpace k reached in
     let few-cycles = cycle-few s k e in
-    let xs = map (λ x. x .0) (take (c .n) (answer c 128 16384 .start)) in
-    let long = length-cycles (c .n) (network c .times) j xs (demand2 c 128 16384 limits .start k reached .size) in
-    rw (is, start-runs c 128 16384 limits k j reached (omega arith))
+    let xs = map (λ x. x .0) (take (c .n) (answer c programZones programSpace .start)) in
+    let long = length-cycles (c .n) (network c .times) j xs (demand2 c programZones programSpace limits .start k reached .size) in
+    rw (is, start-runs c programZones programSpace limits k j reached (omega arith))
     (ap (line j) (take-at (map seconds (cycles (c .n) (network c .times) j xs)) _ (c .n) (length-map (cycles (c .n) (network c .times) j xs) seconds ∙ long)))

@@ -1,3 +1,3 @@
 pub mod Text
-pub mod Puts
+pub mod Lengths
 pub mod Examples

@@ -1,11 +1,10 @@
 -- What a planner sees: the text of the answer to a packed case, as bytes of ASCII.
-use Prim.Native.Nat.{ℕ, zero, suc, _+_, _/_, _%_}
-use mathlib.Core.Bool.{cond}
+use Prim.Native.Nat.{ℕ, suc}
 use mathlib.Core.List.{List, [], _∷_, _++_, map, flatten}
-use lib.Dec.{ltb}
-use lib.IntN.{ℤ, pos, negsuc}
-use lib.ListN.{take, set}
+use lib.ListN.{take}
+use Rattle.puts.specs.Decimal.{number, signedNumber}
 use Rattle.ints.specs.declared.Seconds.{Seconds}
+use Rattle.model.specs.Sizes.{mostDepartures, workspaceSize}
 use Rattle.model.specs.declared.Case.{Case}
 use Rattle.model.specs.declared.Verdict.{Verdict}
 use Rattle.model.specs.declared.Verdict.the-variants as verdict
@@ -14,18 +13,6 @@ use Rattle.model.specs.Lists.{tabulate}
 use Rattle.model.specs.Faults.{number as faultNumber, returned}
 use Rattle.model.specs.Packed.{parse}
 use Rattle.model.specs.Answers.{answerPacked, unpacked, run}
-
--- the decimal digits of x, by at most this many steps
-unfoldable pub digits : ℕ → ℕ → List ℕ
-digits zero x = []
-digits (suc steps) x = cond (ltb x 10) ((48 + x) ∷ []) (digits steps (x / 10) ++ (48 + x % 10) ∷ [])
-
-unfoldable pub number : ℕ → List ℕ
-number x = digits (suc x) x
-
-unfoldable pub signedNumber : ℤ → List ℕ
-signedNumber (pos x) = number x
-signedNumber (negsuc x) = 45 ∷ number (suc x)
 
 -- times, a blank before each
 abbrev pub field : Seconds → List ℕ
@@ -75,11 +62,13 @@ lineCount (verdict.Refused f) = 0
 unfoldable pub answerText : Case → Answer → List ℕ
 answerText c r = (heading (r .verdict) ++ 10 ∷ []) ++ lines c (r .start) (lineCount (r .verdict))
 
--- what the program prints for these bytes: Z is 128, and the workspace is as long as seven departures need
-unfoldable pub text : List ℕ → List ℕ
-text s = answerText (unpacked (parse s) .case) (answerPacked s 128 16384)
+-- the program's Z, and its workspace, which is as long as the most departures need
+abbrev pub programZones : ℕ
+programZones = 128
 
--- a buffer with these bytes stored in it one by one from this place on, none of them beyond its end
-unfoldable pub written : List ℕ → ℕ → List ℕ → List ℕ
-written out at [] = out
-written out at (b ∷ bs) = written (set out at b) (suc at) bs
+abbrev pub programSpace : ℕ
+programSpace = workspaceSize programZones mostDepartures
+
+-- what the program prints for these bytes
+unfoldable pub text : List ℕ → List ℕ
+text s = answerText (unpacked (parse s) .case) (answerPacked s programZones programSpace)

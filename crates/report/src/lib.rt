@@ -1,91 +1,38 @@
 // What a planner sees: the text of the answer to a packed case, put together in a buffer.
+ghost use Rattle.model.specs.Sizes.{mostDepartures};
 ghost use mathlib.Core.Path.{_≡_};
-ghost use mathlib.Core.List.{[], _∷_};
+ghost use mathlib.Core.List.{_++_};
 ghost use Prim.Native.Nat.{_+_, _*_, _≤_};
 ghost use lib.ListN.{length, take};
-ghost use lib.IntN.{natAbs};
-ghost use Rattle.report.specs.Text.{number, signedNumber, fields, line, lines, heading, lineCount, text, written};
-ghost use Rattle.report.specs.Puts.{Room, Puts};
+ghost use Rattle.puts.specs.Decimal.{number, mostDigits};
+ghost use Rattle.puts.specs.Written.{PutsWithin};
+ghost use Rattle.report.specs.Text.{fields, line, lines, heading, lineCount, text};
+ghost use Rattle.report.specs.Lengths.{fieldSize, lineSize, wordSize, headingSize, mostLines, textSize};
 use ints::Cycle;
 use ints::Seconds;
 use model::Case;
 use model::DEPARTURES;
+use model::NUMBERS;
 use model::Verdict;
 
-// Room for the longest text: a heading of at most 49 bytes and the end of its line, and 65 lines of at most 175 bytes each.
+// Room for the longest text: the heading and the end of its line, and a line for each cycle.
 pub const TEXT: usize = 12288;
 
-// The program's Z, and the numbers of a workspace for seven departures.
+// The program's Z, and the numbers of a workspace for the most departures.
 const CAPACITY: usize = 128;
 
-const WORKSPACE: usize = 16384;
+const WORKSPACE: usize = 2 * CAPACITY * NUMBERS;
 
-const ZERO: Seconds = Seconds(0);
-
-// Each function below that takes a buffer puts some bytes into it from a place on, or from its start, and gives the place after them.
-// A number has at most 20 digits, so a time takes at most 21 bytes, and a line 20, 22 for each of seven times, and 1.
-fn put_byte(out: &mut [u8; TEXT], at: usize, byte: u8) -> usize
-    requires { ⌜ Room at 1 ⌝ }
-    ensures { λ r. ⌜ Puts (now (out .entry)) at (byte ∷ []) r (now (out .exit)) ⌝ }
-{
-    out[at] = byte;
-    at + 1
-}
-
-fn put_word(out: &mut [u8; TEXT], at: usize, word: &[u8]) -> usize
-    requires { ⌜ Room at (length (now word)) ⌝ }
-    ensures { λ r. ⌜ Puts (now (out .entry)) at (now (word .entry)) r (now (out .exit)) ⌝ }
-{
-    let mut next = at;
-    for i in 0..word.len() {
-        next = put_byte(out, next, word[i]);
-    }
-    next
-}
-
-fn put_number(out: &mut [u8; TEXT], at: usize, x: u64) -> usize
-    requires { ⌜ Room at (length (number x)) ⌝ }
-    ensures { λ r. ⌜ Puts (now (out .entry)) at (number x) r (now (out .exit)) ⌝ }
-{
-    let digit = b'0' + (x % 10) as u8;
-    if x < 10 {
-        return put_byte(out, at, digit);
-    }
-    let next = put_number(out, at, x / 10);
-    put_byte(out, next, digit)
-}
-
-// How far a time is from 0.
-fn size(x: Seconds) -> u64
-    ensures { λ r. ⌜ r ≡ natAbs (x .0) ⌝ }
-{
-    let value = x.0;
-    if value < 0 {
-        return (-(value + 1)) as u64 + 1;
-    }
-    value as u64
-}
-
-fn put_seconds(out: &mut [u8; TEXT], at: usize, x: Seconds) -> usize
-    requires { ⌜ Room at 21 ⌝ }
-    ensures { λ r. ⌜ Puts (now (out .entry)) at (signedNumber (x .0)) r (now (out .exit)) × (r ≤ at + 21) ⌝ }
-{
-    if x.less(ZERO) {
-        let next = put_byte(out, at, b'-');
-        return put_number(out, next, size(x));
-    }
-    put_number(out, at, size(x))
-}
-
+// Each function below puts some bytes into the buffer from a place on, or from its start, and gives the place after them.
 fn put_fields(out: &mut [u8; TEXT], at: usize, times: [Seconds; DEPARTURES], n: usize) -> usize
-    requires { ⌜ (n ≤ 7) × Room at (22 * n) ⌝ }
-    ensures { λ r. ⌜ Puts (now (out .entry)) at (fields (take n times)) r (now (out .exit)) × (r ≤ at + 22 * n) ⌝ }
+    requires { ⌜ (n ≤ mostDepartures) × (at + fieldSize * n ≤ textSize) ⌝ }
+    ensures { λ r. ⌜ PutsWithin (fieldSize * n) (now (out .entry)) at (fields (take n times)) r (now (out .exit)) ⌝ }
 {
     let mut next = at;
     for i in 0..n {
         let time = times[i];
-        next = put_byte(out, next, b' ');
-        next = put_seconds(out, next, time);
+        next = puts::byte(out, next, b' ');
+        next = puts::seconds(out, next, time);
     }
     next
 }
@@ -97,12 +44,12 @@ fn put_line(
     times: [Seconds; DEPARTURES],
     n: usize,
 ) -> usize
-    requires { ⌜ (n ≤ 7) × Room at 175 ⌝ }
-    ensures { λ r. ⌜ Puts (now (out .entry)) at (line cycle (take n times)) r (now (out .exit)) × (r ≤ at + 175) ⌝ }
+    requires { ⌜ (n ≤ mostDepartures) × (at + lineSize ≤ textSize) ⌝ }
+    ensures { λ r. ⌜ PutsWithin lineSize (now (out .entry)) at (line cycle (take n times)) r (now (out .exit)) ⌝ }
 {
-    let mut next = put_number(out, at, cycle as u64);
+    let mut next = puts::number(out, at, cycle as u64);
     next = put_fields(out, next, times, n);
-    put_byte(out, next, b'\n')
+    puts::byte(out, next, b'\n')
 }
 
 // The lines of the first cycles of a run.
@@ -113,8 +60,8 @@ fn put_lines(
     start: [Seconds; DEPARTURES],
     count: usize,
 ) -> usize
-    requires { ⌜ (case .n ≤ 7) × Room at (175 * count) ⌝ }
-    ensures { λ r. ⌜ Puts (now (out .entry)) at (lines case start count) r (now (out .exit)) × (r ≤ at + 175 * count) ⌝ }
+    requires { ⌜ (case .n ≤ mostDepartures) × (at + lineSize * count ≤ textSize) ⌝ }
+    ensures { λ r. ⌜ PutsWithin (lineSize * count) (now (out .entry)) at (lines case start count) r (now (out .exit)) ⌝ }
 {
     let n = case.n;
     let mut next = at;
@@ -126,30 +73,32 @@ fn put_lines(
     next
 }
 
+// A word and the number behind it.
+fn put_numbered(out: &mut [u8; TEXT], word: &[u8], x: u64) -> usize
+    requires { ⌜ length (now word) ≤ wordSize ⌝ }
+    ensures { λ r. ⌜ PutsWithin (wordSize + mostDigits) (now (out .entry)) 0 (now (word .entry) ++ number x) r (now (out .exit)) ⌝ }
+{
+    let next = puts::word(out, 0, word);
+    puts::number(out, next, x)
+}
+
 fn put_heading(out: &mut [u8; TEXT], verdict: Verdict) -> usize
-    ensures { λ r. ⌜ Puts (now (out .entry)) 0 (heading verdict) r (now (out .exit)) × (r ≤ 49) ⌝ }
+    ensures { λ r. ⌜ PutsWithin headingSize (now (out .entry)) 0 (heading verdict) r (now (out .exit)) ⌝ }
 {
     match verdict {
-        Verdict::Reached(cycle) => {
-            let next = put_word(out, 0, b"reached ");
-            put_number(out, next, cycle.0 as u64)
-        }
-        Verdict::Clear(horizon) => {
-            let next = put_word(out, 0, b"clear ");
-            put_number(out, next, horizon.0 as u64)
-        }
-        Verdict::Never => put_word(out, 0, b"never"),
+        Verdict::Reached(cycle) => put_numbered(out, b"reached ", cycle.0 as u64),
+        Verdict::Clear(horizon) => put_numbered(out, b"clear ", horizon.0 as u64),
+        Verdict::Never => puts::word(out, 0, b"never"),
         Verdict::Refused(fault) => {
-            let mut next = put_word(out, 0, b"refused ");
-            next = put_number(out, next, fault.number() as u64);
-            next = put_byte(out, next, b' ');
-            put_number(out, next, fault.returned() as u64)
+            let mut next = put_numbered(out, b"refused ", fault.number() as u64);
+            next = puts::byte(out, next, b' ');
+            puts::number(out, next, fault.returned() as u64)
         }
     }
 }
 
 fn line_count(verdict: Verdict) -> usize
-    requires { ⌜ lineCount verdict ≤ 65 ⌝ }
+    requires { ⌜ lineCount verdict ≤ mostLines ⌝ }
     ensures { λ r. ⌜ r ≡ lineCount verdict ⌝ }
 {
     match verdict {
@@ -162,7 +111,7 @@ fn line_count(verdict: Verdict) -> usize
 
 // The text of the answer to a packed case. What follows it in the buffer stays as it was.
 pub fn report(bytes: &[u8], out: &mut [u8; TEXT]) -> usize
-    ensures { λ r. ⌜ (r ≡ length (text (now (bytes .entry)))) × (r ≤ 12288) × (now (out .exit) ≡ written (now (out .entry)) 0 (text (now (bytes .entry)))) ⌝ }
+    ensures { λ r. ⌜ PutsWithin textSize (now (out .entry)) 0 (text (now (bytes .entry))) r (now (out .exit)) ⌝ }
 {
     let mut work = [0i32; WORKSPACE];
     let answer = verdict::verdict_packed(bytes, CAPACITY, &mut work);
@@ -171,7 +120,7 @@ pub fn report(bytes: &[u8], out: &mut [u8; TEXT]) -> usize
     let verdict = answer.verdict;
     let start = answer.start;
     let mut next = put_heading(out, verdict);
-    next = put_byte(out, next, b'\n');
+    next = puts::byte(out, next, b'\n');
     let count = line_count(verdict);
     put_lines(out, next, case, start, count)
 }

@@ -1,64 +1,47 @@
 // A run: the departure times of one cycle, from some start times on.
 ghost use mathlib.Core.Path.{_≡_};
-ghost use Prim.Native.Nat.{_+_, _≤_, _<_};
+ghost use Prim.Native.Nat.{_+_, _<_};
 ghost use Rattle.model.specs.Network;
-ghost use Rattle.model.specs.Network.{after, secs, clocked, next};
-ghost use Rattle.model.specs.Faults.{timeOf};
+ghost use Rattle.model.specs.Network.{clocked, next};
+ghost use Rattle.model.specs.Faults.{tableOf};
+ghost use Rattle.model.specs.Conditions.{Departures};
 ghost use Rattle.model.specs.Answers;
-ghost use Rattle.model.specs.Answers.{seconds, sevenTimes};
-ghost use Rattle.runs.specs.Steps.{tableOf, timesOf, SumFits, StepFits};
+ghost use Rattle.model.specs.Answers.{seconds, allTimes};
+ghost use Rattle.runs.specs.Steps.{timesOf, StepFits};
 use ints::Cycle;
 use ints::Seconds;
+use ints::ZERO;
+use model::BOUNDS;
 use model::Case;
 use model::DEPARTURES;
 use model::Judged;
+use model::NOTHING;
 use model::Run;
 use model::Slot;
-use model::TIMES;
-
-// The time in the places beyond n.
-const ZERO: Seconds = Seconds(0);
-
-// The later of the time kept, if there is one, and of x and the time in a slot, if it holds one.
-fn later(kept: Slot, x: Seconds, slot: Slot) -> Slot
-    requires { ⌜ SumFits (x .0) (timeOf slot) ⌝ }
-    ensures { λ r. ⌜ timeOf r ≡ Network.later (timeOf kept) (after (secs (x .0)) (timeOf slot)) ⌝ }
-{
-    if !slot.has {
-        return kept;
-    }
-    let sum = x.plus(slot.value);
-    if kept.has && !kept.value.at_most(sum) {
-        return kept;
-    }
-    Slot {
-        has: true,
-        value: sum,
-    }
-}
 
 // The largest sum of a time and an entry of a row.
-fn row_largest(table: [Slot; TIMES], x: [Seconds; DEPARTURES], n: usize, row: usize) -> Seconds
+fn row_largest(table: [Slot; BOUNDS], x: [Seconds; DEPARTURES], n: usize, row: usize) -> Seconds
     requires { ⌜ StepFits n (tableOf n table) (timesOf n x) × (row < n) ⌝ }
     ensures { λ r. ⌜ r ≡ seconds (next n (tableOf n table) (clocked (timesOf n x)) (row + 1)) ⌝ }
 {
     let first = row * n;
-    let mut kept = Slot {
-        has: false,
-        value: ZERO,
-    };
+    let mut kept = NOTHING;
     for column in 0..n {
-        let slot = table[first + column];
+        let entry = table[first + column];
         let time = x[column];
-        kept = later(kept, time, slot);
+        let departure = Slot {
+            has: true,
+            value: time,
+        };
+        kept = kept.later_sum(departure, entry);
     }
     kept.value
 }
 
 // The times of the next cycle.
-fn next_times(table: [Slot; TIMES], x: [Seconds; DEPARTURES], n: usize) -> [Seconds; DEPARTURES]
+fn next_times(table: [Slot; BOUNDS], x: [Seconds; DEPARTURES], n: usize) -> [Seconds; DEPARTURES]
     requires { ⌜ StepFits n (tableOf n table) (timesOf n x) ⌝ }
-    ensures { λ r. ⌜ r ≡ sevenTimes (Network.cycle n (tableOf n table) (timesOf n x)) ⌝ }
+    ensures { λ r. ⌜ r ≡ allTimes (Network.cycle n (tableOf n table) (timesOf n x)) ⌝ }
 {
     let mut times = [ZERO; DEPARTURES];
     for row in 0..n {
@@ -70,8 +53,8 @@ fn next_times(table: [Slot; TIMES], x: [Seconds; DEPARTURES], n: usize) -> [Seco
 
 // The first n times; those beyond are 0.
 fn first_times(x: [Seconds; DEPARTURES], n: usize) -> [Seconds; DEPARTURES]
-    requires { ⌜ n ≤ 7 ⌝ }
-    ensures { λ r. ⌜ r ≡ sevenTimes (timesOf n x) ⌝ }
+    requires { ⌜ Departures n ⌝ }
+    ensures { λ r. ⌜ r ≡ allTimes (timesOf n x) ⌝ }
 {
     let mut times = [ZERO; DEPARTURES];
     for i in 0..n {

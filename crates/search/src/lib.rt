@@ -1,16 +1,16 @@
 // The search: list after list, until one meets the start, the table is full, or the cycles are searched.
 ghost use mathlib.Core.Path.{_≡_};
-ghost use Prim.Native.Nat.{_+_, _*_, _<_};
 ghost use mathlib.Core.List.{[]};
 ghost use mathlib.Core.Bool.{true};
 ghost use lib.ListN.{length, drop};
+ghost use Rattle.model.specs.Sizes.{zoneSize};
 ghost use Rattle.model.specs.Search.{previous};
-ghost use Rattle.model.specs.Answers.{answered, sevenTimes};
-ghost use Rattle.zones.specs.Memory.{boundsIn, timesIn};
+ghost use Rattle.model.specs.Answers.{answered, allTimes};
+ghost use Rattle.memory.specs.Numbers.{boundsIn, timesIn};
 ghost use Rattle.lists.specs.Lists.{listIn};
 ghost use Rattle.search.specs.Searching.{networkIn, Searchable, Stepping, Stepped, pastBy, Searched};
 use ints::Cycle;
-use ints::Seconds;
+use ints::ZERO;
 use model::Answer;
 use model::DEPARTURES;
 use model::Fault;
@@ -31,11 +31,11 @@ struct Step {
 
 // An answer without a start.
 pub fn plain(verdict: Verdict) -> Answer
-    ensures { λ r. ⌜ r ≡ record { verdict = verdict; start = sevenTimes [] } ⌝ }
+    ensures { λ r. ⌜ r ≡ record { verdict = verdict; start = allTimes [] } ⌝ }
 {
     Answer {
         verdict,
-        start: [Seconds(0); DEPARTURES],
+        start: [ZERO; DEPARTURES],
     }
 }
 
@@ -73,8 +73,11 @@ fn one_cycle(
     n: usize,
     k: Cycle,
 ) -> Step
-    requires { ⌜ Stepping n capacity source goal count (now work) (now times) (now start) × (length (now seen) ≡ 65536) ⌝ }
-    ensures { λ r. ⌜ Stepped n capacity (k .0) goal (boundsIn (now (start .entry))) (previous n (timesIn (now (times .entry))) (listIn ((n + 1) * (n + 1)) count (drop source (now (work .entry))))) (now (work .exit)) r ⌝ }
+    requires { ⌜ Stepping n capacity source goal count (now work) (now times) (now start) (now seen) ⌝ }
+    ensures { λ r. ⌜
+        Stepped n capacity (k .0) goal (boundsIn (now (start .entry)))
+        (previous n (timesIn (now (times .entry))) (listIn (zoneSize n) count (drop source (now (work .entry))))) (now (work .exit)) r
+        ⌝ }
 {
     let built = lists::next_list(work, source, goal, count, capacity, times, seen, n);
     if built.full {
@@ -109,11 +112,13 @@ pub fn search(
     cycles: Cycle,
     end: End,
 ) -> Answer
-    requires { ⌜ Searchable n capacity (cycles .0) (now work) (now times) (now start) (now target) ⌝ }
-    ensures { λ r. ⌜ Searched (networkIn n (cycles .0) (now (times .entry)) (now (start .entry)) (now (target .entry))) capacity (cycles .0) end r ⌝ }
+    requires { ⌜ Searchable n capacity (cycles .0) (length (now work)) (now times) (now start) (now target) ⌝ }
+    ensures { λ r. ⌜
+        Searched (networkIn n (cycles .0) (now (times .entry)) (now (start .entry)) (now (target .entry))) capacity (cycles .0) end r
+        ⌝ }
 {
     let last = cycles.0;
-    let half = capacity * ((n + 1) * (n + 1));
+    let half = capacity * memory::zone_size(n);
     let mut count = lists::first_list(work, target, n);
     let mut seen = [0i32; lists::SEEN];
     let mut source = 0;

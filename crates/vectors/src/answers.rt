@@ -4,10 +4,10 @@ use crate::case_text;
 use crate::cases;
 use crate::packing;
 use crate::packing::Packed;
-use crate::packing::SIZE;
 use crate::text;
 use model::Answer;
 use model::Case;
+use model::DEPARTURES;
 use model::Verdict;
 
 // The longest workspace lent: 2 * 4096 * 4 numbers and some more.
@@ -17,7 +17,7 @@ const ROOM: usize = 33000;
 const MARK: i32 = 7;
 
 // The workspace after a call.
-const ZERO: u8 = 0;
+const CLEARED: u8 = 0;
 
 const UNCHANGED: u8 = 1;
 
@@ -42,7 +42,7 @@ fn state_of(work: &[i32]) -> u8 {
     if work.len() == 0 {
         EMPTY
     } else if zero {
-        ZERO
+        CLEARED
     } else if unchanged {
         UNCHANGED
     } else {
@@ -122,7 +122,7 @@ fn write_verdict(verdict: Verdict) {
 }
 
 fn write_work(work: u8) {
-    if work == ZERO {
+    if work == CLEARED {
         io::write_all(1, b", workspace zero");
     } else if work == UNCHANGED {
         io::write_all(1, b", workspace unchanged");
@@ -192,7 +192,7 @@ pub(crate) fn line(case: Case, capacity: usize, room: usize) {
 
 // 2 * 128 * (n + 1) * (n + 1), the numbers that Z = 128 needs.
 pub(crate) fn exact(n: usize) -> usize {
-    if n > 7 {
+    if n > DEPARTURES {
         return 1024;
     }
     256 * cases::product(n + 1, n + 1)

@@ -4,8 +4,8 @@ use crate::text;
 use ints::Seconds;
 use model::BOUNDS;
 use model::Case;
+use model::DEPARTURES;
 use model::Slot;
-use model::TIMES;
 
 // What stands before an entry of the table.
 fn gap(n: usize, k: usize) {
@@ -22,30 +22,6 @@ fn time(slot: Slot) {
         text::signed(slot.value);
     } else {
         io::write_all(1, b"blank");
-    }
-}
-
-fn times(table: [Slot; TIMES], n: usize) {
-    io::write_all(1, b"A =");
-    let count = cases::product(n, n);
-    for k in 0..TIMES {
-        if k < count {
-            let slot = table[k];
-            gap(n, k);
-            time(slot);
-        }
-    }
-}
-
-// The table, or n alone where it is not from 1 to 7.
-pub(crate) fn table(case: Case) {
-    let n = case.n;
-    if n == 0 || n > 7 {
-        io::write_all(1, b"n ");
-        text::number(n);
-    } else {
-        let entries = case.times;
-        times(entries, n);
     }
 }
 
@@ -86,8 +62,13 @@ fn numbered(n: usize, k: usize, b: Seconds) {
     }
 }
 
-// An entry of a pattern, and whether a bound has been written.
-fn entry(n: usize, k: usize, slot: Slot, some: bool) -> bool {
+// An entry of the table or of a pattern, and whether one has been written.
+fn entry(n: usize, k: usize, slot: Slot, of_table: bool, some: bool) -> bool {
+    if of_table {
+        gap(n, k);
+        time(slot);
+        return true;
+    }
     if !slot.has {
         return some;
     }
@@ -98,16 +79,33 @@ fn entry(n: usize, k: usize, slot: Slot, some: bool) -> bool {
     true
 }
 
-fn pattern(bounds: [Slot; BOUNDS], n: usize) {
-    let count = cases::pattern_size(n);
+// The first entries of the table or of a pattern, and whether one has been written.
+fn entries(slots: [Slot; BOUNDS], n: usize, count: usize, of_table: bool) -> bool {
     let mut some = false;
     for k in 0..BOUNDS {
         if k < count {
-            let slot = bounds[k];
-            some = entry(n, k, slot, some);
+            let slot = slots[k];
+            some = entry(n, k, slot, of_table, some);
         }
     }
-    if !some {
+    some
+}
+
+// The table, or n alone where there is none of that size.
+pub(crate) fn table(case: Case) {
+    let n = case.n;
+    if n == 0 || n > DEPARTURES {
+        io::write_all(1, b"n ");
+        text::number(n);
+    } else {
+        let times = case.times;
+        io::write_all(1, b"A =");
+        entries(times, n, cases::product(n, n), true);
+    }
+}
+
+fn pattern(bounds: [Slot; BOUNDS], n: usize) {
+    if !entries(bounds, n, cases::pattern_size(n), false) {
         io::write_all(1, b"any");
     }
 }

@@ -1,17 +1,13 @@
 // Tables, patterns and cases.
 ghost use Prim.Native.Nat.{_≤_};
+ghost use Rattle.model.specs.Sizes.{mostNumbers};
 use ints::Cycle;
 use ints::Seconds;
 use model::BOUNDS;
 use model::Case;
+use model::DEPARTURES;
+use model::NOTHING;
 use model::Slot;
-use model::TIMES;
-
-// No time, no bound.
-pub const NOTHING: Slot = Slot {
-    has: false,
-    value: Seconds(0),
-};
 
 pub(crate) fn slot(value: i64) -> Slot {
     Slot {
@@ -36,14 +32,14 @@ fn time(value: i64) -> Slot {
 }
 
 // The table of one time; the entries beyond are blank.
-pub(crate) fn table1(a: i64) -> [Slot; TIMES] {
-    let mut table = [NOTHING; TIMES];
+pub(crate) fn table1(a: i64) -> [Slot; BOUNDS] {
+    let mut table = [NOTHING; BOUNDS];
     table[0] = time(a);
     table
 }
 
 // The table a b / c d.
-pub(crate) fn table2(a: i64, b: i64, c: i64, d: i64) -> [Slot; TIMES] {
+pub(crate) fn table2(a: i64, b: i64, c: i64, d: i64) -> [Slot; BOUNDS] {
     let mut table = table1(a);
     table[1] = time(b);
     table[2] = time(c);
@@ -51,37 +47,31 @@ pub(crate) fn table2(a: i64, b: i64, c: i64, d: i64) -> [Slot; TIMES] {
     table
 }
 
-// A table with one entry changed.
-pub(crate) fn entry(table: [Slot; TIMES], place: usize, value: Slot) -> [Slot; TIMES] {
-    let mut changed = table;
-    if place < TIMES {
-        changed[place] = value;
-    }
-    changed
-}
-
 // The pattern without a bound.
 pub(crate) fn any() -> [Slot; BOUNDS] {
     [NOTHING; BOUNDS]
 }
 
-// A pattern with one entry changed.
-pub(crate) fn changed(pattern: [Slot; BOUNDS], place: usize, value: Slot) -> [Slot; BOUNDS] {
-    let mut next = pattern;
+// A table or a pattern with one entry changed.
+pub(crate) fn changed(entries: [Slot; BOUNDS], place: usize, value: Slot) -> [Slot; BOUNDS] {
+    let mut next = entries;
     if place < BOUNDS {
         next[place] = value;
     }
     next
 }
 
-// The product of two numbers up to 8; of others 0.
+// The rows of a zone: the clock's and one for each departure.
+const ROWS: usize = DEPARTURES + 1;
+
+// The product of two numbers of at most ROWS; of others 0.
 pub(crate) fn product(a: usize, b: usize) -> usize
-    ensures { λ r. ⌜ r ≤ 64 ⌝ }
+    ensures { λ r. ⌜ r ≤ mostNumbers ⌝ }
 {
-    if a > 8 {
+    if a > ROWS {
         return 0;
     }
-    if b > 8 {
+    if b > ROWS {
         return 0;
     }
     a * b
@@ -89,7 +79,7 @@ pub(crate) fn product(a: usize, b: usize) -> usize
 
 // How many bounds a pattern has.
 pub(crate) fn pattern_size(n: usize) -> usize {
-    if n > 7 {
+    if n > DEPARTURES {
         return 0;
     }
     product(n, n + 1)
@@ -97,7 +87,7 @@ pub(crate) fn pattern_size(n: usize) -> usize {
 
 // The entry number of the pair i, j: pairs go by i, then j, without i = j.
 fn pair(n: usize, i: usize, j: usize) -> usize {
-    if j > 7 {
+    if j > DEPARTURES {
         return BOUNDS;
     }
     let row = product(i, n);
@@ -118,7 +108,7 @@ pub(crate) fn at_most(
 }
 
 fn opposite(a: i32) -> Seconds {
-    Seconds(-(a as i64))
+    Seconds::of(a).negated()
 }
 
 // A pattern with x(i) - x(j) >= a besides.
@@ -178,22 +168,22 @@ pub(crate) fn square() -> [Slot; BOUNDS] {
 }
 
 // The tables R, S and O of document 01.
-pub(crate) fn r() -> [Slot; TIMES] {
+pub(crate) fn r() -> [Slot; BOUNDS] {
     table2(2, 5, 3, 3)
 }
 
-pub(crate) fn s() -> [Slot; TIMES] {
+pub(crate) fn s() -> [Slot; BOUNDS] {
     table2(BLANK, 0, 0, BLANK)
 }
 
-pub(crate) fn o() -> [Slot; TIMES] {
+pub(crate) fn o() -> [Slot; BOUNDS] {
     table1(1)
 }
 
 pub(crate) fn case_of(
     n: usize,
     horizon: usize,
-    times: [Slot; TIMES],
+    times: [Slot; BOUNDS],
     start: [Slot; BOUNDS],
     target: [Slot; BOUNDS],
 ) -> Case {
@@ -209,7 +199,7 @@ pub(crate) fn case_of(
 // Cases of one and of two departures.
 pub(crate) fn one(
     horizon: usize,
-    times: [Slot; TIMES],
+    times: [Slot; BOUNDS],
     start: [Slot; BOUNDS],
     target: [Slot; BOUNDS],
 ) -> Case {
@@ -218,7 +208,7 @@ pub(crate) fn one(
 
 pub(crate) fn two(
     horizon: usize,
-    times: [Slot; TIMES],
+    times: [Slot; BOUNDS],
     start: [Slot; BOUNDS],
     target: [Slot; BOUNDS],
 ) -> Case {
@@ -226,6 +216,6 @@ pub(crate) fn two(
 }
 
 // A case of two departures without bounds.
-pub(crate) fn unbounded(horizon: usize, times: [Slot; TIMES]) -> Case {
+pub(crate) fn unbounded(horizon: usize, times: [Slot; BOUNDS]) -> Case {
     two(horizon, times, any(), any())
 }

@@ -126,7 +126,7 @@ fn in_packed() {
 
 // A value marked absent is ignored.
 fn absent() {
-    let table = cases::entry(cases::r(), 0, cases::absent(86401));
+    let table = cases::changed(cases::r(), 0, cases::absent(86401));
     noted(b", the blank holds 86401", cases::unbounded(3, table));
     let none = cases::changed(any(), 1, cases::absent(1000001));
     noted(
@@ -137,7 +137,7 @@ fn absent() {
 
 // Values beyond n are ignored.
 fn beyond() {
-    let table = cases::entry(cases::o(), 1, cases::slot(86401));
+    let table = cases::changed(cases::o(), 1, cases::slot(86401));
     let start = cases::changed(cases::at_time(0), 2, cases::slot(1000001));
     let target = cases::changed(cases::at_time(5), 55, cases::slot(-1000001));
     noted(

@@ -14,13 +14,15 @@ use crate::timetable::from2;
 use crate::timetable::run_line;
 use ints::Seconds;
 use model::BOUNDS;
+use model::CYCLES;
 use model::Case;
+use model::DEPARTURES;
+use model::NOTHING;
 use model::Slot;
-use model::TIMES;
 
 // blank -60 blank / -30 blank -90 / blank blank 45
-fn early() -> [Slot; TIMES] {
-    let mut table = [cases::NOTHING; TIMES];
+fn early() -> [Slot; BOUNDS] {
+    let mut table = [NOTHING; BOUNDS];
     table[1] = slot(-60);
     table[3] = slot(-30);
     table[5] = slot(-90);
@@ -60,8 +62,8 @@ fn three() {
 }
 
 // Seven departures in a ring: each waits for the one before, the first and the last for themselves too.
-fn ring() -> [Slot; TIMES] {
-    let mut table = [cases::NOTHING; TIMES];
+fn ring() -> [Slot; BOUNDS] {
+    let mut table = [NOTHING; BOUNDS];
     table[0] = slot(15);
     table[6] = slot(20);
     table[7] = slot(10);
@@ -105,9 +107,9 @@ fn seven() {
 // Every time 86400 and every bound the same.
 fn longest(bound: i64) -> Case {
     case_of(
-        7,
-        64,
-        [slot(86400); TIMES],
+        DEPARTURES,
+        CYCLES,
+        [slot(86400); BOUNDS],
         [slot(bound); BOUNDS],
         [slot(bound); BOUNDS],
     )

@@ -7,27 +7,20 @@ pub(crate) fn number(n: usize) {
     io::print_decimal(1, n as u64);
 }
 
-fn magnitude(value: i64) -> u64 {
-    if value < 0 {
-        (-(value + 1)) as u64 + 1
-    } else {
-        value as u64
+fn size(time: Seconds, minus: bool) {
+    if minus {
+        io::write_all(1, b"-");
     }
+    io::print_decimal(1, puts::magnitude(time));
 }
 
 pub(crate) fn signed(time: Seconds) {
-    if time.0 < 0 {
-        io::write_all(1, b"-");
-    }
-    io::print_decimal(1, magnitude(time.0));
+    size(time, time.0 < 0);
 }
 
 // A number with its sign changed.
 pub(crate) fn opposite(time: Seconds) {
-    if time.0 > 0 {
-        io::write_all(1, b"-");
-    }
-    io::print_decimal(1, magnitude(time.0));
+    size(time, time.0 > 0);
 }
 
 // All seven times.

@@ -1,11 +1,11 @@
 -- The answer and the workspace by what the judging and the reading say.
 use Prim.Native.Nat.{ℕ}
-use native.Mathlib.Omega.{arith}
 use mathlib.Core.Path.{_≡_, refl, ap}
 use mathlib.Core.List.{List}
 use mathlib.Core.Option.{none, some}
 use lib.IntN.{ℤ, pos}
 use lib.ListN.{length, replicate}
+use Rattle.ints.proofs.Integers.{impossible}
 use Rattle.model.specs.declared.Case.{Case}
 use Rattle.model.specs.declared.Fault.{Fault}
 use Rattle.model.specs.declared.Unpacked.{Unpacked}
@@ -36,11 +36,12 @@ module _ (s : List ℕ) (capacity : ℕ) (work : List ℤ) {r : Unpacked} (e : r
       go : (o : Reading Case) → unpacked o .judged ≡ judged.Refused f
           → (refusal f ≡ elim o [ refused g ↦ refusal g | got c q ↦ answer c capacity (length work) ])
           × (work ≡ elim o [ refused g ↦ work | got c q ↦ workspaceAfter c capacity work ])
-      go (got c q) k = let z : _≡_ {A = ℕ} 0 1 = cc in absurd (omega arith)
+      go (got c q) k = impossible cc
       go (refused g) k = let d : f ≡ g = cc in (ap refusal d, refl)
 
   pub packed-read : r .judged ≡ judged.Accepted
-      → (answer (r .case) capacity (length work) ≡ answerPacked s capacity (length work)) × (workspaceAfter (r .case) capacity work ≡ workspaceAfterPacked s capacity work)
+      → (answer (r .case) capacity (length work) ≡ answerPacked s capacity (length work))
+      × (workspaceAfter (r .case) capacity work ≡ workspaceAfterPacked s capacity work)
   unfolding answerPacked workspaceAfterPacked
   packed-read h = rw e (go (parse s) (rw e at h))
     where
@@ -48,4 +49,4 @@ module _ (s : List ℕ) (capacity : ℕ) (work : List ℤ) {r : Unpacked} (e : r
           → (answer (unpacked o .case) capacity (length work) ≡ elim o [ refused g ↦ refusal g | got c q ↦ answer c capacity (length work) ])
           × (workspaceAfter (unpacked o .case) capacity work ≡ elim o [ refused g ↦ work | got c q ↦ workspaceAfter c capacity work ])
       go (got c q) k = (refl, refl)
-      go (refused g) k = let z : _≡_ {A = ℕ} 0 1 = cc in absurd (omega arith)
+      go (refused g) k = impossible cc

@@ -42,7 +42,8 @@ module _ (horizon : Cycle) where
 abbrev pub within : Network → ℕ → Network
 within w h = record { n = w .n; horizon = h; times = w .times; start = w .start; target = w .target }
 
-pub same-search : (w : Network) (h capacity r k : ℕ) (zs : List Matrix) (end : Outcome) → searchFrom (within w h) capacity r k zs end ≡ searchFrom w capacity r k zs end
+pub same-search : (w : Network) (h capacity r k : ℕ) (zs : List Matrix) (end : Outcome)
+    → searchFrom (within w h) capacity r k zs end ≡ searchFrom w capacity r k zs end
 unfolding searchFrom settled
 same-search w h capacity zero k zs end = refl
 same-search w h capacity (suc r) k zs end =

@@ -1,15 +1,17 @@
 // Verdicts: a case is judged, then searched, and the workspace is left all zero.
 ghost use mathlib.Core.Path.{_≡_};
 ghost use mathlib.Core.Bool.{_||_};
-ghost use Prim.Native.Nat.{_+_, _*_, _≤_, _<_};
+ghost use Prim.Native.Nat.{_≤_, _<_};
 ghost use lib.ListN.{length, replicate};
 ghost use lib.IntN.{pos};
+ghost use Rattle.model.specs.Sizes.{mostCycles};
 ghost use Rattle.model.specs.Pattern.{onlyDifferences};
 ghost use Rattle.model.specs.Search.{planWith, outcome};
-ghost use Rattle.model.specs.Faults.{network, patternSize};
+ghost use Rattle.model.specs.Faults.{network};
 ghost use Rattle.model.specs.Answers.{answered};
 ghost use Rattle.model.specs.Demands.{InLimits, Given, PackedGiven};
-ghost use Rattle.zones.specs.Memory.{boundsIn};
+ghost use Rattle.memory.specs.Numbers.{boundsIn};
+ghost use Rattle.memory.specs.Conditions.{PatternIn};
 ghost use Rattle.powers.specs.Readings.{repeatRead};
 ghost use Rattle.verdict.specs.Planning.{Planned, Counted};
 use ints::Cycle;
@@ -27,7 +29,7 @@ struct Plan {
 }
 
 fn plan_of(repeated: Repeated, differences: bool, horizon: Cycle) -> Plan
-    requires { ⌜ Counted repeated × (horizon .0 ≤ 64) ⌝ }
+    requires { ⌜ Counted repeated × (horizon .0 ≤ mostCycles) ⌝ }
     ensures { λ r. ⌜ Planned (planWith (horizon .0) (repeatRead repeated) differences) r ⌝ }
 {
     if differences {
@@ -49,45 +51,50 @@ fn plan_of(repeated: Repeated, differences: bool, horizon: Cycle) -> Plan
 
 // Start or target bounds only differences.
 fn differences(start: &[i32], target: &[i32], n: usize) -> bool
-    requires { ⌜ (n ≤ 7) × (length (now start) ≡ patternSize n) × (length (now target) ≡ patternSize n) ⌝ }
+    requires { ⌜ PatternIn n (now start) × PatternIn n (now target) ⌝ }
     ensures { λ r. ⌜ r ≡ (onlyDifferences n (boundsIn (now (start .entry))) || onlyDifferences n (boundsIn (now (target .entry)))) ⌝ }
 {
-    if encoded::only_differences(start, n) {
+    if memory::only_differences(start, n) {
         return true;
     }
-    encoded::only_differences(target, n)
+    memory::only_differences(target, n)
+}
+
+// Sets every number to 0.
+fn clear(work: &mut [i32])
+    ensures { λ r. ⌜ now (work .exit) ≡ replicate (length (now (work .entry))) (pos 0) ⌝ }
+{
+    for k in 0..work.len() {
+        work[k] = 0;
+    }
 }
 
 // The answer for a case within the limits.
 fn searched(case: Case, capacity: usize, work: &mut [i32]) -> Answer
     requires { ⌜ InLimits case capacity (length (now work)) ⌝ }
-    ensures { λ r. ⌜ (r ≡ answered (outcome (network case) capacity)) × (now (work .exit) ≡ replicate (length (now (work .entry))) (pos 0)) ⌝ }
+    ensures { λ r. ⌜
+        (r ≡ answered (outcome (network case) capacity)) × (now (work .exit) ≡ replicate (length (now (work .entry))) (pos 0))
+        ⌝ }
 {
     let n = case.n;
+    let count = memory::table_size(n);
+    let size = memory::pattern_size(n);
     let table = case.times;
-    let times = encoded::times_in(table, n);
     let from = case.start;
-    let start = encoded::bounds_in(from, n);
     let to = case.target;
-    let target = encoded::bounds_in(to, n);
-    let count = n * n;
-    let size = n * (n + 1);
-    let free = differences(&start[..size], &target[..size], n);
+    let times = memory::numbers_in(table, count);
+    let start = memory::numbers_in(from, size);
+    let target = memory::numbers_in(to, size);
+    let times = &times[..count];
+    let start = &start[..size];
+    let target = &target[..size];
+    let free = differences(start, target, n);
     let repeated = powers::first_repeat(table, n);
     let plan = plan_of(repeated, free, case.horizon);
     let cycles = plan.cycles;
     let end = plan.end;
-    let answer = search::search(
-        work,
-        capacity,
-        &times[..count],
-        &start[..size],
-        &target[..size],
-        n,
-        cycles,
-        end,
-    );
-    encoded::clear(work);
+    let answer = search::search(work, capacity, times, start, target, n, cycles, end);
+    clear(work);
     answer
 }
 

@@ -5,12 +5,13 @@ use native.Mathlib.Decide.{decLt, ℕ-discrete}
 use mathlib.Core.Path.{_≡_, refl, sym, _∙_}
 use lib.ListN.{length, set}
 use lib.Seq.{getD-set-same, getD-set-other}
+use Rattle.model.specs.Sizes.{zoneSize}
 use Rattle.model.specs.Bound as B
 use Rattle.model.specs.Bound.{Bound}
 use Rattle.model.specs.Matrix.{Matrix, entry, matrix}
 use Rattle.model.proofs.Entries.{length-matrix, entry-matrix, ext-entry}
 use Rattle.zones.specs.Inner.{RowFilled}
-use Rattle.zones.proofs.Places.{in-rows}
+use Rattle.memory.proofs.Places.{in-rows}
 
 -- two entries at one place are one
 same-row : (m i j k l : ℕ) → j < m → l < m → k * m + l ≡ i * m + j → k ≡ i
@@ -41,7 +42,7 @@ row-kept n d f i e = record { done = λ l h k. e l; left = λ l h k. refl; other
 pub row-start : (n : ℕ) (d : Matrix) (f : ℕ → Bound) (i : ℕ) → RowFilled n d d f i 0
 row-start n d f i = record { done = λ l h k. absurd (omega arith); left = λ l h k. refl; others = λ k l h g ne. refl }
 
-pub row-step : {n : ℕ} {d₀ d : Matrix} {f : ℕ → Bound} {i j : ℕ} (b : Bound) → RowFilled n d₀ d f i j → length d ≡ suc n * suc n → i < suc n → j < suc n
+pub row-step : {n : ℕ} {d₀ d : Matrix} {f : ℕ → Bound} {i j : ℕ} (b : Bound) → RowFilled n d₀ d f i j → length d ≡ zoneSize n → i < suc n → j < suc n
     → b ≡ f j → RowFilled n d₀ (set d (i * suc n + j) b) f i (j + 1)
 row-step {n} {d} {f} {i} {j} b p size hi hj e = record {
   done = λ l h k. elim (ℕ-discrete l j) [
@@ -75,7 +76,7 @@ rows-step {i} p q e = record {
 }
 
 -- all rows
-pub rows-done : {n : ℕ} {d₀ d : Matrix} {f : ℕ → ℕ → Bound} {i : ℕ} → Filled n d₀ d f i → length d ≡ suc n * suc n → suc n ≤ i → d ≡ matrix (suc n) f
+pub rows-done : {n : ℕ} {d₀ d : Matrix} {f : ℕ → ℕ → Bound} {i : ℕ} → Filled n d₀ d f i → length d ≡ zoneSize n → suc n ≤ i → d ≡ matrix (suc n) f
 rows-done {n} {d} {f} p size h =
     ext-entry (suc n) d (matrix (suc n) f) size (length-matrix (suc n) f)
     (λ k l g r. p .done k l g r (omega arith) ∙ sym (entry-matrix (suc n) k l f g r))

@@ -6,20 +6,22 @@ use mathlib.Core.List.{List, [], _∷_, _++_, map, map-append}
 use lib.IntN.{ℤ, pos, negℤ, natAbs}
 use lib.ListN.{length, getD, set, drop, length-append, length-map, List·getD-append, List·getD-map}
 use Rattle.ints.specs.declared.Seconds.{Seconds}
-use Rattle.model.proofs.Stored.{padded-set}
+use Rattle.model.specs.Sizes.{mostDepartures}
 use Rattle.model.specs.Lists.{tabulate, padded, Every, done, both}
 use Rattle.model.specs.Bound as B
 use Rattle.model.specs.Bound.{Bound, most, plus, tighter}
 use Rattle.model.specs.Matrix.{Matrix, entry}
 use Rattle.model.specs.Network.{clocked}
 use Rattle.model.specs.Search.{tightest, above, below, leastOr, choices, pick}
-use Rattle.model.specs.Answers.{seconds, sevenTimes}
-use Rattle.model.specs.Conditions.{earliest, latest, Small, free}
+use Rattle.model.specs.Answers.{seconds, allTimes}
+use Rattle.model.specs.Conditions.{howEarly, howLate, Small, free}
+use Rattle.model.proofs.Stored.{padded-set}
 use Rattle.model.proofs.Bounds.{tighter-either}
 use Rattle.model.proofs.Listed.{every-append, every-map, at-getD}
-use Rattle.model.proofs.Tabulated.{tabulate-ext}
-use Rattle.zones.specs.Inner.{InMemory, values}
-use Rattle.zones.proofs.Toward.{from, from-next, from-end, from-first}
+use Rattle.model.proofs.Size.{small-mono, term-small}
+use Rattle.model.proofs.Tabulated.{tabulate-ext, from, from-next, from-end, from-first}
+use Rattle.memory.specs.Numbers.{InMemory, Widest}
+use Rattle.zones.specs.Inner.{values}
 
 pub clocked-at : (xs : List ℤ) (s : ℕ) → 1 ≤ s → clocked xs s ≡ getD xs (s - 1) (pos 0)
 unfolding clocked
@@ -34,6 +36,10 @@ early-term n d t x s = plus (entry (suc n) d s t) (most (negℤ (x s)))
 abbrev pub late-term : ℕ → Matrix → ℕ → (ℕ → ℤ) → ℕ → Bound
 late-term n d t x s = plus (entry (suc n) d t s) (most (x s))
 
+-- the sums stay in 64 bits
+pub term-wide : {t : ℕ} {c : Bound} (x : ℤ) → t ≤ mostDepartures → Small InMemory c → natAbs x ≤ t * InMemory → Small Widest (plus c (most x))
+term-wide {t} x few small near = small-mono (omega arith) (term-small t x small near)
+
 -- b is the tightest of the terms f s, .., f (t - 1)
 pub record Tightest (t : ℕ) (f : ℕ → Bound) (s : ℕ) (b : Bound) : Type 0 where
   pub upto : s ≤ t
@@ -45,16 +51,17 @@ unfolding tightest
 tightest-start t f = record { upto = omega arith; is = rw (from-end f t t (omega arith)); small = free }
 
 module _ {t : ℕ} {f : ℕ → Bound} {s : ℕ} {b : Bound} (w : Tightest t f s b) where
-  -- one more, c
-  pub tightest-step : (c : Bound) → 1 ≤ s → Small (suc t * InMemory) c → c ≡ f (s - 1) → Tightest t f (s - 1) (tighter c b)
+  -- one more
+  pub tightest-step : (c : Bound) (x : ℤ) → 1 ≤ s → Small InMemory c → natAbs x ≤ t * InMemory → plus c (most x) ≡ f (s - 1)
+      → Tightest t f (s - 1) (tighter (plus c (most x)) b)
   unfolding tightest
-  tightest-step c h small e =
+  tightest-step c x h small near e =
       let u = w .upto in
       let k : s - 1 + 1 ≡ s = omega arith in
       record {
         upto = omega arith;
         is = ap₂ tighter e (w .is) ∙ sym (ap tightest (from-next f t (s - 1) (omega arith)) ∙ ap (λ (r : ℕ). tighter (f (s - 1)) (tightest (from f t r))) k);
-        small = tighter-either (Small (suc t * InMemory)) c b small (w .small);
+        small = tighter-either (Small (suc t * InMemory)) (plus c (most x)) b (term-small t x small near) (w .small);
       }
 
   -- all
@@ -64,17 +71,16 @@ module _ {t : ℕ} {f : ℕ → Bound} {s : ℕ} {b : Bound} (w : Tightest t f s
       w .is ∙ rw e (ap tightest (sym (from-first f t 0 t (omega arith))))
 
 -- ---- all departures
--- a list in the front of an array, and one more element
 -- the times of the departures before t are picked, and small; the others are still to be picked
 pub record Picking (n : ℕ) (d : Matrix) (times : List Seconds) (t : ℕ) : Type 0 where
   pub ys : List ℤ
   pub count : suc (length ys) ≡ t
   pub upto : t ≤ suc n
-  pub are : times ≡ sevenTimes ys
+  pub are : times ≡ allTimes ys
   pub rest : choices (suc n) d (suc n - t) (pos 0 ∷ ys) ≡ choices (suc n) d n (pos 0 ∷ [])
   pub small : Every (λ y. natAbs y ≤ t * InMemory) ys
 
-pub picking-start : (n : ℕ) (d : Matrix) → Picking n d (sevenTimes []) 1
+pub picking-start : (n : ℕ) (d : Matrix) → Picking n d (allTimes []) 1
 picking-start n d = record {
   ys = [];
   count = refl;
@@ -85,22 +91,23 @@ picking-start n d = record {
 }
 
 -- a time before t is that of the list
-clocked-seven : (ys : List ℤ) (s : ℕ) → s < suc (length ys) → clocked (values (sevenTimes ys)) s ≡ getD (pos 0 ∷ ys) s (pos 0)
+clocked-all : (ys : List ℤ) (s : ℕ) → s < suc (length ys) → clocked (values (allTimes ys)) s ≡ getD (pos 0 ∷ ys) s (pos 0)
 unfolding clocked
-clocked-seven ys zero h = refl
-clocked-seven ys (suc i) h =
-    List·getD-map (λ x. x .0) (sevenTimes ys) i (seconds (pos 0))
-    ∙ ap (λ (x : Seconds). x .0) (List·getD-append (map seconds ys) _ (seconds (pos 0)) i (rw (length-map ys seconds) (omega arith)) ∙ List·getD-map seconds ys i (pos 0))
+clocked-all ys zero h = refl
+clocked-all ys (suc i) h =
+    List·getD-map (λ x. x .0) (allTimes ys) i (seconds (pos 0))
+    ∙ ap (λ (x : Seconds). x .0)
+    (List·getD-append (map seconds ys) _ (seconds (pos 0)) i (rw (length-map ys seconds) (omega arith)) ∙ List·getD-map seconds ys i (pos 0))
 
 module _ {n : ℕ} {d : Matrix} {times : List Seconds} {t : ℕ} (w : Picking n d times t) where
   at-before : (s : ℕ) → s < t → clocked (values times) s ≡ getD (pos 0 ∷ w .ys) s (pos 0)
-  at-before s h = let c = w .count in rw (w .are) (clocked-seven (w .ys) s (omega arith))
+  at-before s h = let c = w .count in rw (w .are) (clocked-all (w .ys) s (omega arith))
 
   pub times-small : (s : ℕ) → s < t → natAbs (clocked (values times) s) ≤ t * InMemory
   times-small s h = rw (at-before s h) (at-getD (pos 0) (omega arith) (both (omega arith) (w .small)) s)
 
   -- the choice
-  choice-is : leastOr (earliest (suc n) d t (clocked (values times))) (latest (suc n) d t (clocked (values times)))
+  choice-is : leastOr (howEarly (suc n) d t (clocked (values times))) (howLate (suc n) d t (clocked (values times)))
       ≡ leastOr (below (suc n) d (pos 0 ∷ w .ys)) (above (suc n) d (pos 0 ∷ w .ys))
   unfolding below above
   choice-is =
@@ -109,8 +116,8 @@ module _ {n : ℕ} {d : Matrix} {times : List Seconds} {t : ℕ} (w : Picking n 
       (tabulate-ext t 0 _ _ (λ s l u. rw (at-before s (omega arith))))
       (tabulate-ext t 0 _ _ (λ s l u. rw (at-before s (omega arith)))))
 
-  pub picking-step : (v : Seconds) → t ≤ n → n ≤ 7 → natAbs (v .0) ≤ suc t * InMemory
-      → v .0 ≡ leastOr (earliest (suc n) d t (clocked (values times))) (latest (suc n) d t (clocked (values times)))
+  pub picking-step : (v : Seconds) → t ≤ n → n ≤ mostDepartures → natAbs (v .0) ≤ suc t * InMemory
+      → v .0 ≡ leastOr (howEarly (suc n) d t (clocked (values times))) (howLate (suc n) d t (clocked (values times)))
       → Picking n d (set times (t - 1) v) (t + 1)
   unfolding choices
   picking-step v h few small is =
@@ -121,13 +128,15 @@ module _ {n : ℕ} {d : Matrix} {times : List Seconds} {t : ℕ} (w : Picking n 
         ys = w .ys ++ (v .0 ∷ []);
         count = rw (length-append (w .ys) (v .0 ∷ [])) (omega arith);
         upto = omega arith;
-        are = rw (w .are, k) (padded-set (seconds (pos 0)) 7 (length (map seconds (w .ys))) (map seconds (w .ys)) v refl (omega arith) ∙ ap (padded (seconds (pos 0)) 7) (sym (map-append seconds (w .ys) (v .0 ∷ []))));
+        are = rw (w .are, k)
+            (padded-set (seconds (pos 0)) mostDepartures (length (map seconds (w .ys))) (map seconds (w .ys)) v refl (omega arith)
+            ∙ ap (padded (seconds (pos 0)) mostDepartures) (sym (map-append seconds (w .ys) (v .0 ∷ []))));
         rest = rw (is ∙ choice-is) (rw r at (w .rest));
         small = every-append (every-map (λ y l. omega arith) (w .small)) (both (omega arith) done);
       }
 
-  pub picking-done : suc n ≤ t → times ≡ sevenTimes (pick n d)
+  pub picking-done : suc n ≤ t → times ≡ allTimes (pick n d)
   unfolding pick choices
   picking-done h =
       let z : suc n - t ≡ 0 = omega arith in
-      w .are ∙ ap (λ (xs : List ℤ). sevenTimes (drop 1 xs)) (rw z at (w .rest))
+      w .are ∙ ap (λ (xs : List ℤ). allTimes (drop 1 xs)) (rw z at (w .rest))

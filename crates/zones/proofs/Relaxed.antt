@@ -1,5 +1,5 @@
 -- One more constraint, x(a) - x(b) ≤ c, taken in row by row.
-use Prim.Native.Nat.{ℕ, suc, _+_, _*_, _≤_, _<_}
+use Prim.Native.Nat.{ℕ, suc, _+_, _≤_, _<_}
 use native.Mathlib.Omega.{arith}
 use native.Mathlib.Decide.{decLt}
 use mathlib.Core.Path.{_≡_, refl, _∙_}
@@ -10,19 +10,17 @@ use lib.IntN.{ℤ}
 use lib.ListN.{length}
 use Rattle.model.specs.Bound.{Bound, most, LeB, plus, tighter, negative}
 use Rattle.model.specs.Matrix.{Matrix, entry, relaxed, within, constrain}
-use Rattle.model.specs.Conditions.{Small}
+use Rattle.model.specs.Conditions.{Fits, Small}
 use Rattle.model.proofs.Bounds.{leB-refl, plus-mono, plus-zero, tighter-of-le, negative-false}
 use Rattle.model.proofs.Entries.{entry-matrix}
+use Rattle.model.proofs.Fitted.{fitting-bounded, fitting-step}
+use Rattle.model.proofs.Listed.{of-both}
 use Rattle.model.proofs.Zones.{constrain-implied}
-use Rattle.model.proofs.Size.{small-mono}
-use Rattle.model.proofs.Sizes.{made-small, made-all}
-use Rattle.zones.specs.Memory.{boundsIn}
-use Rattle.zones.specs.Conditions.{gone, kept}
-use Rattle.zones.specs.Inner.{Taking, Taken, limited, across, RowIn, RowFilled, Largest, InMemory}
-use Rattle.zones.proofs.Places.{bounds-size}
+use Rattle.memory.specs.Numbers.{boundsIn, Limit, InMemory}
+use Rattle.memory.proofs.Places.{bounds-size}
+use Rattle.zones.specs.Conditions.{gone, kept, Taken}
+use Rattle.zones.specs.Inner.{TakingOne, LimitMost, limited, across, RelaxReady, RowMade}
 use Rattle.zones.proofs.Fills.{Filled, rows-step, rows-done}
-use Rattle.zones.proofs.ReadyZones.{zone-closed, zone-size, limit-small}
-use Rattle.zones.proofs.Toward.{head}
 
 -- entry (i, j), with the way by the new constraint
 abbrev pub via : ℕ → Matrix → ℕ → ℕ → Bound → ℕ → ℕ → Bound
@@ -32,19 +30,13 @@ via n d a b limit i j = across n d i b (plus (entry (suc n) d i a) limit) j
 via-same : (x y : Bound) (c : ℤ) → negative (plus x (most c)) ≡ false → tighter y (plus (plus x (most c)) y) ≡ y
 via-same x y c e = tighter-of-le (rw (plus-zero y) at (plus-mono (negative-false (plus x (most c)) e) (leB-refl y)))
 
-module _ {n : ℕ} {z : List ℤ} {a b : ℕ} {c : ℤ} (t : Taking n z (limited a b (most c))) where
-  pub row-in : a < suc n
-  row-in = head (t .fits) .row-fits
-
-  pub col-in : b < suc n
-  col-in = head (t .fits) .col-fits
-
-  pub limit-in : Small InMemory (most c)
-  limit-in = small-mono (omega (arith, limit-small (t .ready))) (head (t .small))
+module _ {n : ℕ} {z : List ℤ} {a b : ℕ} {c : ℤ} (t : TakingOne n z a b (most c)) where
+  pub inside : Fits (suc n) (record { row = a; col = b; limit = most c })
+  inside = of-both (t .taking .fits) .0
 
   -- the zone implies it
   pub all-left : LeB (entry (suc n) (boundsIn z) a b) (most c) → Taken n z (limited a b (most c)) true z
-  all-left le = rw (constrain-implied (suc n) (zone-closed (t .ready)) (head (t .fits)) le) (kept refl)
+  all-left le = rw (constrain-implied (suc n) (t .taking .set .closed) inside le) (kept refl)
 
   -- no times are left
   pub none-left : {z′ : List ℤ} → negative (plus (entry (suc n) (boundsIn z) b a) (most c)) ≡ true → Taken n z (limited a b (most c)) false z′
@@ -52,24 +44,21 @@ module _ {n : ℕ} {z : List ℤ} {a b : ℕ} {c : ℤ} (t : Taking n z (limited
   none-left e = rw e gone
 
   module _ (ok : negative (plus (entry (suc n) (boundsIn z) b a) (most c)) ≡ false) where
-    some-left : constrain (suc n) (some (boundsIn z)) (record { row = a; col = b; limit = most c }) ≡ some (relaxed (suc n) (boundsIn z) a b c)
+    some-left : constrain (suc n) (some (boundsIn z)) (record { row = a; col = b; limit = most c }) ≡ some (relaxed (suc n) (boundsIn z) a b (most c))
     unfolding constrain within
     some-left = rw ok
 
     -- every entry stays small
-    via-small : (i j : ℕ) → i < suc n → j < suc n → Small Largest (via n (boundsIn z) a b (most c) i j)
+    via-small : (i j : ℕ) → i < suc n → j < suc n → Small Limit (via n (boundsIn z) a b (most c) i j)
     unfolding relaxed
-    via-small i j hi hj =
-        let made = made-all (limited a b (most c)) (t .ready .made) (t .fits) (t .small) some-left in
-        let small = made-small made i j hi hj in
-        small-mono (let l = t .ready .limit in omega arith) (rw (entry-matrix (suc n) i j _ hi hj) at small)
+    via-small i j hi hj = rw (entry-matrix (suc n) i j _ hi hj) at (fitting-bounded (rw some-left at (fitting-step (t .taking .fitting))) i j hi hj)
 
     module _ (z′ : List ℤ) {i : ℕ} (inv : Filled n (boundsIn z) (boundsIn z′) (via n (boundsIn z) a b (most c)) i) (hi : i < suc n) where
       -- row b does not change
       base-same : (j : ℕ) → j < suc n → entry (suc n) (boundsIn z′) b j ≡ entry (suc n) (boundsIn z) b j
       base-same j hj = elim (decLt b i) [
-        | yes l ↦ inv .done b j col-in hj l ∙ via-same _ _ c ok
-        | no l ↦ inv .left b j col-in hj (omega arith)
+        | yes l ↦ inv .done b j (inside .col-fits) hj l ∙ via-same _ _ c ok
+        | no l ↦ inv .left b j (inside .col-fits) hj (omega arith)
       ]
 
       row-same : (j : ℕ) → j < suc n → entry (suc n) (boundsIn z′) i j ≡ entry (suc n) (boundsIn z) i j
@@ -77,25 +66,24 @@ module _ {n : ℕ} {z : List ℤ} {a b : ℕ} {c : ℤ} (t : Taking n z (limited
 
       via-here : {way : Bound} → way ≡ plus (entry (suc n) (boundsIn z′) i a) (most c) → (j : ℕ) → j < suc n
           → across n (boundsIn z′) i b way j ≡ via n (boundsIn z) a b (most c) i j
-      via-here e j hj = rw (e, row-same a row-in, row-same j hj, base-same j hj)
+      via-here e j hj = rw (e, row-same a (inside .row-fits), row-same j hj, base-same j hj)
 
-      pub row-ready : {way : Bound} → length z′ ≡ length z → Small (2 * InMemory) way → way ≡ plus (entry (suc n) (boundsIn z′) i a) (most c) → RowIn n z′ i b way
+      pub row-ready : {way : Bound} → length z′ ≡ length z → Small (InMemory + LimitMost) way → way ≡ plus (entry (suc n) (boundsIn z′) i a) (most c)
+          → RelaxReady n z′ i b way
       row-ready size small e = record {
-        few = t .ready .few;
-        size = size ∙ zone-size (t .ready);
+        zone = record { departures = t .taking .set .zone .departures; size = size ∙ t .taking .set .zone .size };
         row = hi;
-        base = col-in;
+        base = inside .col-fits;
         way-small = small;
         new-small = λ j hj. rw (via-here e j hj) (via-small i j hi hj);
       }
 
       pub row-taken : {way : Bound} (z″ : List ℤ) → way ≡ plus (entry (suc n) (boundsIn z′) i a) (most c)
-          → RowFilled n (boundsIn z′) (boundsIn z″) (across n (boundsIn z′) i b way) i (suc n)
-          → Filled n (boundsIn z) (boundsIn z″) (via n (boundsIn z) a b (most c)) (i + 1)
+          → RowMade n z′ z″ (across n (boundsIn z′) i b way) i → Filled n (boundsIn z) (boundsIn z″) (via n (boundsIn z) a b (most c)) (i + 1)
       row-taken z″ e q = rows-step inv q (via-here e)
 
     -- all rows
     pub all-taken : (z′ : List ℤ) {i : ℕ} → Filled n (boundsIn z) (boundsIn z′) (via n (boundsIn z) a b (most c)) i → length z′ ≡ length z → suc n ≤ i
         → Taken n z (limited a b (most c)) true z′
     unfolding relaxed
-    all-taken z′ inv size h = rw some-left (kept (rows-done inv (bounds-size z′ ∙ size ∙ zone-size (t .ready)) h))
+    all-taken z′ inv size h = rw some-left (kept (rows-done inv (bounds-size z′ ∙ size ∙ t .taking .set .zone .size) h))

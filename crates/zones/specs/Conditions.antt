@@ -1,66 +1,47 @@
 -- What the public functions require and ensure.
-use Prim.Native.Nat.{ℕ, suc, _+_, _*_, _≤_, _<_}
+use Prim.Native.Nat.{ℕ, suc, _≤_}
 use mathlib.Core.Path.{_≡_}
-use mathlib.Core.List.{List}
+use mathlib.Core.List.{List, foldl}
 use mathlib.Core.Option.{Option, none, some}
 use mathlib.Core.Bool.{Bool, true, false}
-use lib.IntN.{ℤ, natAbs}
+use lib.IntN.{ℤ}
 use lib.ListN.{length}
-use Rattle.model.specs.Bound.{most}
-use Rattle.model.specs.Matrix.{Matrix, entry}
-use Rattle.model.specs.Pattern.{pairBound}
-use Rattle.model.specs.Conditions.{Column, Cols, Small, Made, TimesSmall}
-use Rattle.zones.specs.Memory.{boundsIn, timesIn}
+use Rattle.model.specs.Matrix.{Matrix, Constraint, constrain}
+use Rattle.model.specs.Search.{rowConstraints}
+use Rattle.model.specs.Conditions.{Column, Cols, Closed, Fitting, Meetable}
+use Rattle.memory.specs.Numbers.{boundsIn, timesIn, Limit}
+use Rattle.memory.specs.Conditions.{ZoneIn, TableIn, PatternIn}
 
--- the most that a bound of a zone is in size
-abbrev pub Limit : ℕ
-Limit = 600000000
+-- a zone with its tightest bounds
+pub record ClosedIn (n : ℕ) (z : List ℤ) : Type 0 where
+  pub zone : ZoneIn n z
+  pub closed : Closed (suc n) (boundsIn z)
 
--- room for a zone of n departures
-pub record Room (n : ℕ) (z : List ℤ) : Type 0 where
-  pub some : 1 ≤ n
-  pub few : n ≤ 7
-  pub size : length z ≡ suc n * suc n
-
--- a zone that may be worked on. It is made of constraints of at most B in size, so no finite bound of it passes Limit, nor of what
--- further constraints of at most B leave of it: nothing overflows
-pub record Ready (n B : ℕ) (z : List ℤ) : Type 0 where
-  pub some : 1 ≤ n
-  pub few : n ≤ 7
-  pub limit : n * B ≤ Limit
-  pub made : Made n B (boundsIn z)
-
--- what is left of a zone, by the answer. False: no times are left, and what stands in z is free, since z is a local copy; its length
--- is unchanged. True: z is the zone that is left
+-- what is left of a zone, by the answer. False: no times are left, and what stands in z is free; its length is unchanged.
+-- True: z is the zone that is left
 pub data Left : Option Matrix → Bool → List ℤ → Type 0 where
   gone : {z : List ℤ} → Left none false z
   kept : {d : Matrix} {z : List ℤ} → boundsIn z ≡ d → Left (some d) true z
 
--- part can take in what row i adds with column s for the preimage of zone, whose bounds are at most S in size: constraints of at
--- most S + 172800. cols holds the columns of the rows before
+-- r and z′ are what the constraints ks leave of z
+abbrev pub Taken : ℕ → List ℤ → List Constraint → Bool → List ℤ → Type 0
+Taken n z ks r z′ = Left (foldl (constrain (suc n)) (some (boundsIn z)) ks) r z′
+
+-- part can take in what row i adds with column s for the preimage of zone: no set on the way has a finite bound beyond Limit.
+-- cols holds the columns of the rows before
 pub record RowReady (n : ℕ) (part times zone : List ℤ) (cols : List ℕ) (i s : ℕ) : Type 0 where
-  pub B : ℕ
-  pub S : ℕ
-  pub ready : Ready n B part
-  pub times-size : length times ≡ n * n
-  pub zone-size : length zone ≡ suc n * suc n
-  pub times-small : TimesSmall n (timesIn times)
-  pub zone-small : (j k : ℕ) → j < suc n → k < suc n → Small S (entry (suc n) (boundsIn zone) j k)
-  pub limit : S + 172800 ≤ B
+  pub set : ClosedIn n part
+  pub table : TableIn n times
+  pub source : ZoneIn n zone
   pub from-one : 1 ≤ i
   pub to-n : i ≤ n
   pub cols-size : i ≤ length cols
   pub columns : Cols n (timesIn times) cols i
   pub column : Column n (timesIn times) i s
+  pub fitting : Fitting (suc n) Limit (some (boundsIn part)) (rowConstraints n (timesIn times) (boundsIn zone) cols i s)
 
 -- zone can take in the constraints of a pattern
 pub record CommonReady (n : ℕ) (zone pattern : List ℤ) : Type 0 where
-  pub B : ℕ
-  pub ready : Ready n B zone
-  pub size : length pattern ≡ n * suc n
-  pub small : (i j : ℕ) (b : ℤ) → pairBound n (boundsIn pattern) i j ≡ most b → natAbs b ≤ B
-
--- a start can be picked in zone
-pub record PickReady (n : ℕ) (zone : List ℤ) : Type 0 where
-  pub B : ℕ
-  pub ready : Ready n B zone
+  pub set : ClosedIn n zone
+  pub limits : PatternIn n pattern
+  pub fitting : Meetable n (boundsIn pattern) Limit (boundsIn zone)

@@ -1,33 +1,28 @@
 // Zones in memory: one more constraint in place, what a row of a preimage adds, what a zone has in common with a pattern,
 // and the start that is picked.
 ghost use mathlib.Core.Path.{_≡_};
-ghost use mathlib.Core.List.{foldl};
-ghost use mathlib.Core.Option.{some};
-ghost use mathlib.Core.Bool.{true};
-ghost use Prim.Native.Nat.{suc, _+_, _*_, _≤_, _<_};
-ghost use lib.ListN.{set};
-ghost use Rattle.model.specs.Bound.{most, LeB, plus, tighter, negative};
-ghost use Rattle.model.specs.Matrix.{diagonal, everything, constrain};
-ghost use Rattle.model.specs.Pattern.{pairBound, patternConstraints};
+ghost use Prim.Native.Nat.{suc, _≤_, _<_};
+ghost use Rattle.model.specs.Sizes.{mostDepartures};
+ghost use Rattle.model.specs.Bound.{most};
+ghost use Rattle.model.specs.Matrix.{diagonal, everything};
+ghost use Rattle.model.specs.Pattern.{patternConstraints};
 ghost use Rattle.model.specs.Network.{clocked};
-ghost use Rattle.model.specs.Search.{slack, attains, rowConstraints, leastOr, pick};
-ghost use Rattle.model.specs.Answers.{sevenTimes};
+ghost use Rattle.model.specs.Search.{attains, rowConstraints, leastOr, pick};
+ghost use Rattle.model.specs.Answers.{allTimes};
 ghost use Rattle.model.specs.Conditions.{Small};
-ghost use Rattle.zones.specs.Memory.{boundIn, boundsIn, timesIn};
-ghost use Rattle.zones.specs.Conditions.{Room, Left, RowReady, CommonReady, PickReady};
-ghost use Rattle.zones.specs.Inner.{bound, timeOf, Widest, Largest, Read, Place, Cell, BoundAt, PairCell, TimeCell, TimeAt, Adds, Added, RowFilled, across, RowIn};
-ghost use Rattle.zones.specs.Inner.{Taking, Taken, limited, keepOne, keepBoth, images, pairRow, AttainReady, KeepReady, ImagesReady, PairRowReady, values, NextReady, NextIs};
+ghost use Rattle.memory.specs.Numbers.{boundsIn, timesIn, asBound, Limit, Widest};
+ghost use Rattle.memory.specs.Conditions.{ZoneIn};
+ghost use Rattle.zones.specs.Conditions.{Taken, RowReady, CommonReady};
+ghost use Rattle.zones.specs.Inner.{RowMade, across, RelaxReady, TakingOne, limited, Adds, Added, keepOne, keepBoth, images, pairRow};
+ghost use Rattle.zones.specs.Inner.{AttainReady, KeepReady, ImagesReady, PairRowReady, values, NextReady, NextIs};
 use ints::Seconds;
+use ints::ZERO;
+use memory::Number;
+use memory::bound_at;
+use memory::pair_bound;
+use memory::put;
+use memory::time_at;
 use model::DEPARTURES;
-
-// Stands for no bound, and for a blank.
-pub const NONE: i32 = 2147483647;
-
-// A number in memory: a bound of a zone or of a pattern, or a time of the table.
-enum Entry {
-    Blank,
-    Secs(Seconds),
-}
 
 // The column of a row in a selection.
 struct Choice {
@@ -35,117 +30,12 @@ struct Choice {
     column: usize,
 }
 
-impl Entry {
-    // What a number in memory stands for.
-    fn read(raw: i32) -> Entry
-        ensures { λ r. ⌜ Read raw r ⌝ }
-    {
-        if raw == NONE {
-            return Entry::Blank;
-        }
-        Entry::Secs(Seconds::of(raw))
-    }
-
-    // The number in memory that stands for a bound.
-    fn raw(self) -> i32
-        requires { ⌜ Small Largest (bound self) ⌝ }
-        ensures { λ r. ⌜ boundIn r ≡ bound self ⌝ }
-    {
-        match self {
-            Entry::Blank => NONE,
-            Entry::Secs(c) => c.0 as i32,
-        }
-    }
-
-    fn plus(self, other: Entry) -> Entry
-        requires { ⌜ Small Widest (plus (bound self) (bound other)) ⌝ }
-        ensures { λ r. ⌜ bound r ≡ plus (bound self) (bound other) ⌝ }
-    {
-        let Entry::Secs(a) = self else {
-            return Entry::Blank;
-        };
-        let Entry::Secs(b) = other else {
-            return Entry::Blank;
-        };
-        Entry::Secs(a.plus(b))
-    }
-
-    fn tighter(self, other: Entry) -> Entry
-        ensures { λ r. ⌜ bound r ≡ tighter (bound self) (bound other) ⌝ }
-    {
-        let Entry::Secs(a) = self else {
-            return other;
-        };
-        let Entry::Secs(b) = other else {
-            return self;
-        };
-        if a.at_most(b) { self } else { other }
-    }
-
-    // The bound on x(j) - x(s) where this time is added to x(j), c to x(s), and the second sum is not less.
-    fn slack(self, c: Seconds) -> Entry
-        requires { ⌜ Small Widest (slack (c .0) (timeOf self)) ⌝ }
-        ensures { λ r. ⌜ bound r ≡ slack (c .0) (timeOf self) ⌝ }
-    {
-        let Entry::Secs(t) = self else {
-            return Entry::Blank;
-        };
-        Entry::Secs(c.minus(t))
-    }
-
-    fn negative(self) -> bool
-        ensures { λ r. ⌜ r ≡ negative (bound self) ⌝ }
-    {
-        match self {
-            Entry::Blank => false,
-            Entry::Secs(a) => a.less(Seconds(0)),
-        }
-    }
-
-    // True only where all that keeps to this bound is at most c.
-    fn implies(self, c: Seconds) -> bool
-        ensures { λ r. ⌜ (r ≡ true → LeB (bound self) (most (c .0))) ⌝ }
-    {
-        match self {
-            Entry::Blank => false,
-            Entry::Secs(a) => a.at_most(c),
-        }
-    }
-}
-
-// The place of (i, j) in rows of m numbers.
-fn place(m: usize, i: usize, j: usize) -> usize
-    requires { ⌜ (m ≤ 8) × (i < 8) × (j < m) ⌝ }
-    ensures { λ r. ⌜ Place m i j r ⌝ }
-{
-    i * m + j
-}
-
-// The bound of a zone on x(i) - x(j).
-fn bound_at(zone: &[i32], n: usize, i: usize, j: usize) -> Entry
-    requires { ⌜ Cell n (now zone) i j ⌝ }
-    ensures { λ r. ⌜ BoundAt n (now (zone .entry)) i j r ⌝ }
-{
-    let k = place(n + 1, i, j);
-    let raw = zone[k];
-    Entry::read(raw)
-}
-
-// Stores a bound on x(i) - x(j).
-fn put(zone: &mut [i32], n: usize, i: usize, j: usize, b: Entry)
-    requires { ⌜ Cell n (now zone) i j × Small Largest (bound b) ⌝ }
-    ensures { λ r. ⌜ boundsIn (now (zone .exit)) ≡ set (boundsIn (now (zone .entry))) (i * suc n + j) (bound b) ⌝ }
-{
-    let k = place(n + 1, i, j);
-    zone[k] = b.raw();
-}
-
 // Row i takes in what follows by way of row b; way bounds x(i) - x(b), and where it is blank nothing follows.
-fn relax_row(zone: &mut [i32], n: usize, i: usize, b: usize, way: Entry)
-    requires { ⌜ RowIn n (now zone) i b (bound way) ⌝ }
-    ensures { λ r. ⌜ RowFilled n (boundsIn (now (zone .entry))) (boundsIn (now (zone .exit))) (across n (boundsIn (now (zone .entry))) i b (bound way)) i (suc n) ⌝ }
+fn relax_row(zone: &mut [i32], n: usize, i: usize, b: usize, way: Number)
+    requires { ⌜ RelaxReady n (now zone) i b (asBound way) ⌝ }
+    ensures { λ r. ⌜ RowMade n (now (zone .entry)) (now (zone .exit)) (across n (boundsIn (now (zone .entry))) i b (asBound way)) i ⌝ }
 {
-    if let Entry::Blank = way {
+    if let Number::Blank = way {
         return;
     }
     let mut j = 0;
@@ -161,10 +51,10 @@ fn relax_row(zone: &mut [i32], n: usize, i: usize, b: usize, way: Entry)
 // One more constraint, in place: x(a) - x(b) ≤ c. False where no times are left. Row b is not changed
 // by the loop, since x(b) - x(a) may be as large as -c.
 fn constrain(zone: &mut [i32], n: usize, a: usize, b: usize, c: Seconds) -> bool
-    requires { ⌜ Taking n (now zone) (limited a b (most (c .0))) ⌝ }
+    requires { ⌜ TakingOne n (now zone) a b (most (c .0)) ⌝ }
     ensures { λ r. ⌜ Taken n (now (zone .entry)) (limited a b (most (c .0))) r (now (zone .exit)) ⌝ }
 {
-    let limit = Entry::Secs(c);
+    let limit = Number::Secs(c);
     let around = bound_at(zone, n, b, a).plus(limit);
     if around.negative() {
         return false;
@@ -179,11 +69,11 @@ fn constrain(zone: &mut [i32], n: usize, a: usize, b: usize, c: Seconds) -> bool
 }
 
 // The same, with a limit that may be blank. What the zone implies already changes nothing.
-fn take_in(zone: &mut [i32], n: usize, a: usize, b: usize, limit: Entry) -> bool
-    requires { ⌜ Taking n (now zone) (limited a b (bound limit)) ⌝ }
-    ensures { λ r. ⌜ Taken n (now (zone .entry)) (limited a b (bound limit)) r (now (zone .exit)) ⌝ }
+fn take_in(zone: &mut [i32], n: usize, a: usize, b: usize, limit: Number) -> bool
+    requires { ⌜ TakingOne n (now zone) a b (asBound limit) ⌝ }
+    ensures { λ r. ⌜ Taken n (now (zone .entry)) (limited a b (asBound limit)) r (now (zone .exit)) ⌝ }
 {
-    let Entry::Secs(c) = limit else {
+    let Number::Secs(c) = limit else {
         return true;
     };
     if bound_at(zone, n, a, b).implies(c) {
@@ -193,20 +83,20 @@ fn take_in(zone: &mut [i32], n: usize, a: usize, b: usize, limit: Entry) -> bool
 }
 
 // The bound on x(i) - x(j) where all times are allowed.
-fn diagonal(i: usize, j: usize) -> Entry
-    ensures { λ r. ⌜ (bound r ≡ diagonal i j) × Small Largest (bound r) ⌝ }
+fn diagonal(i: usize, j: usize) -> Number
+    ensures { λ r. ⌜ (asBound r ≡ diagonal i j) × Small Limit (asBound r) ⌝ }
 {
     if i == j {
-        Entry::Secs(Seconds(0))
+        Number::Secs(ZERO)
     } else {
-        Entry::Blank
+        Number::Blank
     }
 }
 
 // Row i of the zone of all times.
 fn open_row(zone: &mut [i32], n: usize, i: usize)
-    requires { ⌜ Room n (now zone) × (i < suc n) ⌝ }
-    ensures { λ r. ⌜ RowFilled n (boundsIn (now (zone .entry))) (boundsIn (now (zone .exit))) (diagonal i) i (suc n) ⌝ }
+    requires { ⌜ ZoneIn n (now zone) × (i < suc n) ⌝ }
+    ensures { λ r. ⌜ RowMade n (now (zone .entry)) (now (zone .exit)) (diagonal i) i ⌝ }
 {
     let mut j = 0;
     while j <= n {
@@ -218,7 +108,7 @@ fn open_row(zone: &mut [i32], n: usize, i: usize)
 
 // The zone of all times.
 pub fn everything(zone: &mut [i32], n: usize)
-    requires { ⌜ Room n (now zone) ⌝ }
+    requires { ⌜ ZoneIn n (now zone) ⌝ }
     ensures { λ r. ⌜ boundsIn (now (zone .exit)) ≡ everything (suc n) ⌝ }
 {
     let mut i = 0;
@@ -228,27 +118,17 @@ pub fn everything(zone: &mut [i32], n: usize)
     }
 }
 
-// A(i, j) of the table.
-fn time_at(times: &[i32], n: usize, i: usize, j: usize) -> Entry
-    requires { ⌜ TimeCell n (now times) i j ⌝ }
-    ensures { λ r. ⌜ TimeAt n (now (times .entry)) i j r ⌝ }
-{
-    let k = place(n, i - 1, j - 1);
-    let raw = times[k];
-    Entry::read(raw)
-}
-
 // What column s adds in row i. The clock, as row 0, adds 0.
 fn chosen(times: &[i32], n: usize, i: usize, s: usize) -> Seconds
     requires { ⌜ Adds n (now times) i s ⌝ }
     ensures { λ r. ⌜ Added n (now (times .entry)) i s r ⌝ }
 {
     if i == 0 {
-        return Seconds(0);
+        return ZERO;
     }
     match time_at(times, n, i, s) {
-        Entry::Blank => Seconds(0),
-        Entry::Secs(t) => t,
+        Number::Blank => ZERO,
+        Number::Secs(t) => t,
     }
 }
 
@@ -270,27 +150,31 @@ fn attain(part: &mut [i32], times: &[i32], n: usize, i: usize, s: usize) -> bool
 }
 
 // The image of a.row less that of b.row keeps to the zone; where the zone has no bound there, nothing is asked.
-fn keep(part: &mut [i32], times: &[i32], zone: &[i32], n: usize, a: Choice, b: Choice) -> bool
+fn keep_one(part: &mut [i32], times: &[i32], zone: &[i32], n: usize, a: Choice, b: Choice) -> bool
     requires { ⌜ KeepReady n (now part) (now times) (now zone) a b (keepOne n (timesIn (now times)) (boundsIn (now zone)) a b) ⌝ }
-    ensures { λ r. ⌜ Taken n (now (part .entry)) (keepOne n (timesIn (now (times .entry))) (boundsIn (now (zone .entry))) a b) r (now (part .exit)) ⌝ }
+    ensures { λ r. ⌜
+        Taken n (now (part .entry)) (keepOne n (timesIn (now (times .entry))) (boundsIn (now (zone .entry))) a b) r (now (part .exit))
+        ⌝ }
 {
     let near = bound_at(zone, n, a.row, b.row);
-    if let Entry::Blank = near {
+    if let Number::Blank = near {
         return true;
     }
     let apart = chosen(times, n, b.row, b.column).minus(chosen(times, n, a.row, a.column));
-    take_in(part, n, a.column, b.column, near.plus(Entry::Secs(apart)))
+    take_in(part, n, a.column, b.column, near.plus(Number::Secs(apart)))
 }
 
 // Both ways.
 fn keep_both(part: &mut [i32], times: &[i32], zone: &[i32], n: usize, a: Choice, b: Choice) -> bool
     requires { ⌜ KeepReady n (now part) (now times) (now zone) a b (keepBoth n (timesIn (now times)) (boundsIn (now zone)) a b) ⌝ }
-    ensures { λ r. ⌜ Taken n (now (part .entry)) (keepBoth n (timesIn (now (times .entry))) (boundsIn (now (zone .entry))) a b) r (now (part .exit)) ⌝ }
+    ensures { λ r. ⌜
+        Taken n (now (part .entry)) (keepBoth n (timesIn (now (times .entry))) (boundsIn (now (zone .entry))) a b) r (now (part .exit))
+        ⌝ }
 {
-    if !keep(part, times, zone, n, a, b) {
+    if !keep_one(part, times, zone, n, a, b) {
         return false;
     }
-    keep(part, times, zone, n, b, a)
+    keep_one(part, times, zone, n, b, a)
 }
 
 // The images of row i and of each row before keep to the zone.
@@ -304,7 +188,10 @@ fn keep_images(
     s: usize,
 ) -> bool
     requires { ⌜ ImagesReady n (now part) (now times) (now zone) (now cols) i s ⌝ }
-    ensures { λ r. ⌜ Taken n (now (part .entry)) (images n (timesIn (now (times .entry))) (boundsIn (now (zone .entry))) (now (cols .entry)) i s) r (now (part .exit)) ⌝ }
+    ensures { λ r. ⌜
+        Taken n (now (part .entry)) (images n (timesIn (now (times .entry))) (boundsIn (now (zone .entry))) (now (cols .entry)) i s)
+        r (now (part .exit))
+        ⌝ }
 {
     let last = Choice { row: i, column: s };
     let mut l = 0;
@@ -331,26 +218,15 @@ pub fn add_row(
     s: usize,
 ) -> bool
     requires { ⌜ RowReady n (now part) (now times) (now zone) (now cols) i s ⌝ }
-    ensures { λ r. ⌜ Left (foldl (constrain (suc n)) (some (boundsIn (now (part .entry)))) (rowConstraints n (timesIn (now (times .entry))) (boundsIn (now (zone .entry))) (now (cols .entry)) i s)) r (now (part .exit)) ⌝ }
+    ensures { λ r. ⌜
+        Taken n (now (part .entry)) (rowConstraints n (timesIn (now (times .entry))) (boundsIn (now (zone .entry))) (now (cols .entry)) i s)
+        r (now (part .exit))
+        ⌝ }
 {
     if !attain(part, times, n, i, s) {
         return false;
     }
     keep_images(part, times, zone, cols, n, i, s)
-}
-
-// The bound of a pattern on x(i) - x(j).
-fn pair_bound(pattern: &[i32], n: usize, i: usize, j: usize) -> Entry
-    requires { ⌜ PairCell n (now pattern) i j ⌝ }
-    ensures { λ r. ⌜ bound r ≡ pairBound n (boundsIn (now (pattern .entry))) i j ⌝ }
-{
-    if i == j {
-        return Entry::Blank;
-    }
-    let column = if j < i { j } else { j - 1 };
-    let k = place(n, i, column);
-    let raw = pattern[k];
-    Entry::read(raw)
 }
 
 // Takes in what a pattern says of x(i) - x(j), for each j.
@@ -372,7 +248,7 @@ fn common_row(zone: &mut [i32], pattern: &[i32], n: usize, i: usize) -> bool
 // What the zone has in common with a pattern. False where that is nothing, and then what stands in zone is free.
 pub fn common(zone: &mut [i32], pattern: &[i32], n: usize) -> bool
     requires { ⌜ CommonReady n (now zone) (now pattern) ⌝ }
-    ensures { λ r. ⌜ Left (foldl (constrain (suc n)) (some (boundsIn (now (zone .entry)))) (patternConstraints n (boundsIn (now (pattern .entry))))) r (now (zone .exit)) ⌝ }
+    ensures { λ r. ⌜ Taken n (now (zone .entry)) (patternConstraints n (boundsIn (now (pattern .entry)))) r (now (zone .exit)) ⌝ }
 {
     let mut i = 0;
     while i <= n {
@@ -386,25 +262,25 @@ pub fn common(zone: &mut [i32], pattern: &[i32], n: usize) -> bool
 
 // x(s), of times of departures 1 on: x(0) is the clock's zero.
 fn clocked(times: [Seconds; DEPARTURES], s: usize) -> Seconds
-    requires { ⌜ s ≤ 7 ⌝ }
+    requires { ⌜ s ≤ mostDepartures ⌝ }
     ensures { λ r. ⌜ r .0 ≡ clocked (values times) s ⌝ }
 {
     if s == 0 {
-        return Seconds(0);
+        return ZERO;
     }
     times[s - 1]
 }
 
 // The least time; if there is no least, the greatest; if neither, 0.
-fn least_or(early: Entry, late: Entry) -> Seconds
-    requires { ⌜ Small Widest (bound early) ⌝ }
-    ensures { λ r. ⌜ r .0 ≡ leastOr (bound early) (bound late) ⌝ }
+fn least_or(early: Number, late: Number) -> Seconds
+    requires { ⌜ Small Widest (asBound early) ⌝ }
+    ensures { λ r. ⌜ r .0 ≡ leastOr (asBound early) (asBound late) ⌝ }
 {
     match early {
-        Entry::Secs(b) => b.negated(),
-        Entry::Blank => match late {
-            Entry::Secs(c) => c,
-            Entry::Blank => Seconds(0),
+        Number::Secs(b) => b.negated(),
+        Number::Blank => match late {
+            Number::Secs(c) => c,
+            Number::Blank => ZERO,
         },
     }
 }
@@ -414,15 +290,15 @@ fn next_time(zone: &[i32], n: usize, times: [Seconds; DEPARTURES], t: usize) -> 
     requires { ⌜ NextReady n (now zone) (values times) t ⌝ }
     ensures { λ r. ⌜ NextIs n (now (zone .entry)) (values times) t r ⌝ }
 {
-    let mut early = Entry::Blank;
-    let mut late = Entry::Blank;
+    let mut early = Number::Blank;
+    let mut late = Number::Blank;
     let mut s = t;
     while 0 < s {
         s -= 1;
         let x = clocked(times, s);
-        late = bound_at(zone, n, t, s).plus(Entry::Secs(x)).tighter(late);
+        late = bound_at(zone, n, t, s).plus(Number::Secs(x)).tighter(late);
         early = bound_at(zone, n, s, t)
-            .plus(Entry::Secs(x.negated()))
+            .plus(Number::Secs(x.negated()))
             .tighter(early);
     }
     least_or(early, late)
@@ -430,10 +306,10 @@ fn next_time(zone: &[i32], n: usize, times: [Seconds; DEPARTURES], t: usize) -> 
 
 // The start picked in the zone: each departure in turn, given those before it.
 pub fn pick(zone: &[i32], n: usize) -> [Seconds; DEPARTURES]
-    requires { ⌜ PickReady n (now zone) ⌝ }
-    ensures { λ r. ⌜ r ≡ sevenTimes (pick n (boundsIn (now (zone .entry)))) ⌝ }
+    requires { ⌜ ZoneIn n (now zone) ⌝ }
+    ensures { λ r. ⌜ r ≡ allTimes (pick n (boundsIn (now (zone .entry)))) ⌝ }
 {
-    let mut times = [Seconds(0); DEPARTURES];
+    let mut times = [ZERO; DEPARTURES];
     let mut t = 1;
     while t <= n {
         let x = next_time(zone, n, times, t);

@@ -1,96 +1,73 @@
 -- Entry by entry of the three arrays, one after the other.
 use native.Mathlib.Omega.{arith}
 use borrow.Author.Needs.{needs}
-use Prim.Native.Nat.{_+_, _-_}
-use mathlib.Core.Path.{_≡_, refl, ap, _∙_}
+use Prim.Native.Nat.{ℕ, _-_, _<_}
+use mathlib.Core.Path.{_≡_, sym, ap, _∙_}
 use mathlib.Core.Logic.{⊎-elim}
-use mathlib.Core.List.{_++_}
-use lib.ListN.{length, getD, length-append}
+use mathlib.Core.List.{List, _++_}
+use lib.IntN.{pos}
+use lib.ListN.{length, take, getD, length-append, List·getD-append}
+use lib.Seq.{length-take-le, getD-take}
+use Rattle.model.specs.Sizes.{mostTimes}
 use Rattle.model.specs.declared.Slot.{Slot}
 use Rattle.model.specs.Faults.{nothing}
-use Rattle.embed.specs.Numbers.{flag}
-use Rattle.embed.proofs.Arrays.{Copied, copied-more, copied-all, in-first, in-second, in-third}
+use Rattle.embed.specs.Numbers.{targetPlace, caseEntries, flag}
+use Rattle.embed.proofs.Arrays.{Filled, filled-start, filled-more, copied-all, behind}
 use Rattle.embed.proofs.entries_of.Statement.{statement}
 use Rattle.embed.proofs.entries_of.Tie as tie
 
+abbrev all : List Slot → List Slot → List Slot → List Slot
+all times start target = (take mostTimes times ++ start) ++ target
+
 abbrev Inv-loop : tie.InvT-loop
 Inv-loop times start target present₀ values₀ k₀ present values k =
-    Copied flag 161 ((times ++ start) ++ target) present k × Copied (λ (e : Slot). e .value .0) 161 ((times ++ start) ++ target) values k
+    let entry : ℕ → Slot = λ i. getD (all times start target) i nothing in
+    Filled 0 caseEntries caseEntries 0 (λ i. flag (entry i)) present k × Filled (pos 0) caseEntries caseEntries 0 (λ i. entry i .value .0) values k
 
 abbrev μ-loop : tie.MeasureT-loop
-μ-loop times start target present₀ values₀ k₀ present values k = 161 - k
-
-loop-holds : tie.Need-loop-holds Inv-loop μ-loop
-loop-holds c = (record { count = omega arith; whole = refl; same = refl }, record { count = omega arith; whole = refl; same = refl })
-
-mul-slot : tie.Need-mul-slot Inv-loop μ-loop
-mul-slot c = omega arith
-
-array-copy-out-slot : tie.Need-array-copy-out-slot Inv-loop μ-loop
-array-copy-out-slot c = omega arith
-
-mul-slot-2 : tie.Need-mul-slot-2 Inv-loop μ-loop
-mul-slot-2 c = omega arith
-
-array-copy-out-slot-2 : tie.Need-array-copy-out-slot-2 Inv-loop μ-loop
-array-copy-out-slot-2 c = omega arith
-
-mul-slot-3 : tie.Need-mul-slot-3 Inv-loop μ-loop
-mul-slot-3 c = omega arith
-
-array-copy-out-slot-3 : tie.Need-array-copy-out-slot-3 Inv-loop μ-loop
-array-copy-out-slot-3 c = omega arith
-
-flag-requires : tie.Need-flag-requires Inv-loop μ-loop
-flag-requires c κs = search needs
-
-array-write-present : tie.Need-array-write-present Inv-loop μ-loop
-array-write-present c = omega arith
-
-mul-values : tie.Need-mul-values Inv-loop μ-loop
-mul-values c = omega arith
-
-array-set-from-values : tie.Need-array-set-from-values Inv-loop μ-loop
-array-set-from-values c = omega arith
-
-add-k : tie.Need-add-k Inv-loop μ-loop
-add-k c = omega arith
-
-loop-less : tie.Need-loop-less Inv-loop μ-loop
-loop-less c = omega arith
+μ-loop times start target present₀ values₀ k₀ present values k = caseEntries - k
 
 -- the entry that is put there
 entry-is : (c : tie.Joined1 Inv-loop μ-loop) →
     let a = c .before .before .before .args in
-    c .if1 .slot ≡ getD ((a .t1 ++ a .t2) ++ a .t3) (c .before .before .loop .k) nothing
+    c .if1 .slot ≡ getD (all (a .t1) (a .t2) (a .t3)) (c .before .before .loop .k) nothing
 entry-is c =
     let a = c .before .before .before .args in
     let k = c .before .before .loop .k in
-    let t : length (a .t1) ≡ 49 = omega arith in
-    let s : length (a .t2) ≡ 56 = omega arith in
-    ⊎-elim (λ w. w .2 ∙ in-first (a .t1) (a .t2) (a .t3) nothing k (omega (arith, w .0 .taken)))
-    (⊎-elim (λ w. w .3 ∙ (rw t at (in-second (a .t1) (a .t2) (a .t3) nothing k (omega (arith, w .0 .left)) (omega (arith, w .1 .taken)))))
-    (λ w. w .3 ∙ (rw (t, s) at (in-third (a .t1) (a .t2) (a .t3) nothing k (omega (arith, w .1 .left))))))
+    let times = take mostTimes (a .t1) in
+    let one : length times ≡ mostTimes = length-take-le mostTimes (a .t1) (omega arith) in
+    let two : length (times ++ a .t2) ≡ targetPlace = omega (arith, length-append times (a .t2)) in
+    let front : k < targetPlace → getD ((times ++ a .t2) ++ a .t3) k nothing ≡ getD (times ++ a .t2) k nothing =
+    λ h. List·getD-append (times ++ a .t2) (a .t3) nothing k (omega arith) in
+    ⊎-elim
+    (λ w.
+    let h : k < mostTimes = omega (arith, w .0 .taken) in
+    w .2 ∙ sym (front (omega arith) ∙ List·getD-append times (a .t2) nothing k (omega arith) ∙ getD-take mostTimes (a .t1) k nothing h))
+    (⊎-elim
+    (λ w. w .3 ∙ (rw one at (behind times (a .t2) nothing k (omega (arith, w .0 .left)))) ∙ sym (front (omega (arith, w .1 .taken))))
+    (λ w. w .3 ∙ (rw two at (behind (times ++ a .t2) (a .t3) nothing k (omega (arith, w .1 .left))))))
     (c .if1 .came)
 
 loop-again : tie.Need-loop-again Inv-loop μ-loop
 loop-again c =
     let j = c .before .before .before in
     let l = j .before .before .loop in
-    let a = j .before .before .before .args in
-    let long : length ((a .t1 ++ a .t2) ++ a .t3) ≡ 161 = omega (arith, length-append (a .t1 ++ a .t2) (a .t3), length-append (a .t1) (a .t2)) in (
-      copied-more _ 161 _ _ (l .k) nothing _ long (l .inv .0) (j .before .loop-test .taken) (c .flag .ensures ∙ ap flag (entry-is j)),
-      copied-more _ 161 _ _ (l .k) nothing _ long (l .inv .1) (j .before .loop-test .taken) (rw (← (entry-is j)) (search needs)),
+    let more = j .before .loop-test .taken in (
+      filled-more (l .inv .0) (l .k) (omega arith) more (omega arith) (c .flag .ensures ∙ ap flag (entry-is j)),
+      filled-more (l .inv .1) (l .k) (omega arith) more (omega arith) (rw (← (entry-is j)) (search needs)),
     )
 
 returns : tie.Need-returns Inv-loop μ-loop
 returns c =
     let a = c .before .before .args in
     let l = c .before .loop in
-    let long : length ((a .t1 ++ a .t2) ++ a .t3) ≡ 161 = omega (arith, length-append (a .t1 ++ a .t2) (a .t3), length-append (a .t1) (a .t2)) in
+    let times = take mostTimes (a .t1) in
+    let es = all (a .t1) (a .t2) (a .t3) in
+    let whole : length es ≡ caseEntries =
+    omega (arith, length-append (times ++ a .t2) (a .t3), length-append times (a .t2), length-take-le mostTimes (a .t1) (omega arith)) in
     record {
-      presence = copied-all _ 161 _ _ (l .k) long (l .inv .0) (c .loop-test .left);
-      numbers = copied-all _ 161 _ _ (l .k) long (l .inv .1) (c .loop-test .left);
+      presence = copied-all flag nothing es whole (l .inv .0) (c .loop-test .left);
+      numbers = copied-all (λ (e : Slot). e .value .0) nothing es whole (l .inv .1) (c .loop-test .left);
     }
 
 pub entries-of-spec : {M : Type 1} → statement M
@@ -99,18 +76,18 @@ entries-of-spec =
     (tie.spec
     Inv-loop
     μ-loop
-    loop-holds
-    mul-slot
-    array-copy-out-slot
-    mul-slot-2
-    array-copy-out-slot-2
-    mul-slot-3
-    array-copy-out-slot-3
-    flag-requires
-    array-write-present
-    mul-values
-    array-set-from-values
-    add-k
-    loop-less
+    (λ c. (filled-start, filled-start))
+    (λ c. omega arith)
+    (λ c. omega arith)
+    (λ c. omega arith)
+    (λ c. omega arith)
+    (λ c. omega arith)
+    (λ c. omega arith)
+    (λ c κs. search needs)
+    (λ c. omega arith)
+    (λ c. omega arith)
+    (λ c. omega arith)
+    (λ c. omega arith)
+    (λ c. omega arith)
     loop-again
     returns)

@@ -6,24 +6,13 @@ use mathlib.Core.Path.{_≡_, sym, ap, _∙_}
 use mathlib.Core.Logic.{⊎-elim}
 use mir.Syntax.{w64}
 use mir.ValLaws.{toZ-ofZ}
+use Rattle.model.specs.Sizes.{mostTimes}
 use Rattle.model.specs.declared.Committed.{Committed}
 use Rattle.model.specs.Changes.{timePlace, commit}
 use Rattle.embed.specs.Numbers.{slotOf, caseIn}
 use Rattle.embed.proofs.Changed.{in-table, put-handed, kept-handed}
 use Rattle.embed.proofs.tramcheck_commit.Statement.{statement}
 use Rattle.embed.proofs.tramcheck_commit.Tie as tie
-
-case-in-requires : tie.Need-case-in-requires
-case-in-requires c κs = search needs
-
-slot-of-requires : tie.Need-slot-of-requires
-slot-of-requires c κs = search needs
-
-commit-requires : tie.Need-commit-requires
-commit-requires c κs = search needs
-
-enum-told : tie.Need-enum-told
-enum-told c = search needs
 
 -- the new entry
 slot-is : (c : tie.After-slot-of) → let a = c .before .before .before .before .args in c .slot-of .result ≡ slotOf (a .has) (a .time)
@@ -42,32 +31,8 @@ judged-is c =
 -- where it is accepted, the place is in the table
 here : (c : tie.After-enum-told) →
     let a = c .before .before .before .before .before .before .before .args in
-    (1 ≤ a .row) × (1 ≤ a .column) × (timePlace (a .n) (a .row) (a .column) < 49)
+    (1 ≤ a .row) × (1 ≤ a .column) × (timePlace (a .n) (a .row) (a .column) < mostTimes)
 here c = in-table _ _ _ _ _ _ _ (sym (judged-is (c .before .before)) ∙ c .enum-told .given .1)
-
-sub-k : tie.Need-sub-k
-sub-k c = here c .0
-
-mul-k : tie.Need-mul-k
-mul-k c = omega (arith, here c)
-
-sub-k-2 : tie.Need-sub-k-2
-sub-k-2 c = here c .1
-
-add-k : tie.Need-add-k
-add-k c = omega (arith, here c)
-
-with-entry-requires : tie.Need-with-entry-requires
-with-entry-requires c κs = omega (arith, here (c .before .before))
-
-enum-told-2 : tie.Need-enum-told-2
-enum-told-2 c = search needs
-
-with-count-requires : tie.Need-with-count-requires
-with-count-requires c κs = search needs
-
-tell-written-requires : tie.Need-tell-written-requires
-tell-written-requires c κs = search needs
 
 returns : tie.Need-returns
 returns c =
@@ -83,16 +48,16 @@ pub tramcheck-commit-spec : {M : Type 1} → statement M
 tramcheck-commit-spec =
     tie.close
     (tie.spec
-    case-in-requires
-    slot-of-requires
-    commit-requires
-    enum-told
-    sub-k
-    mul-k
-    sub-k-2
-    add-k
-    with-entry-requires
-    enum-told-2
-    with-count-requires
-    tell-written-requires
+    (λ c κs. search needs)
+    (λ c κs. search needs)
+    (λ c κs. search needs)
+    (λ c. search needs)
+    (λ c. here c .0)
+    (λ c. omega (arith, here c))
+    (λ c. here c .1)
+    (λ c. omega (arith, here c))
+    (λ c κs. omega (arith, here (c .before .before)))
+    (λ c. search needs)
+    (λ c κs. search needs)
+    (λ c κs. search needs)
     returns)

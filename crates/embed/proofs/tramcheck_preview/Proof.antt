@@ -7,21 +7,6 @@ use Rattle.embed.specs.Numbers.{slotOf}
 use Rattle.embed.proofs.tramcheck_preview.Statement.{statement}
 use Rattle.embed.proofs.tramcheck_preview.Tie as tie
 
-case-in-requires : tie.Need-case-in-requires
-case-in-requires c κs = search needs
-
-slot-of-requires : tie.Need-slot-of-requires
-slot-of-requires c κs = search needs
-
-preview-requires : tie.Need-preview-requires
-preview-requires c κs = search needs
-
-tell-requires : tie.Need-tell-requires
-tell-requires c κs = search needs
-
-same-length : tie.Need-same-length
-same-length c = search needs
-
 -- the new entry
 slot-is : (c : tie.After-slot-of) → let a = c .before .before .args in c .slot-of .result ≡ slotOf (a .has) (a .time)
 slot-is c =
@@ -40,9 +25,9 @@ pub tramcheck-preview-spec : {M : Type 1} → statement M
 tramcheck-preview-spec =
     tie.close
     (tie.spec
-    case-in-requires
-    slot-of-requires
-    preview-requires
-    tell-requires
-    same-length
+    (λ c κs. search needs)
+    (λ c κs. search needs)
+    (λ c κs. search needs)
+    (λ c κs. search needs)
+    (λ c. search needs)
     returns)

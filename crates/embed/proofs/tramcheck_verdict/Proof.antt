@@ -3,15 +3,6 @@ use borrow.Author.Needs.{needs}
 use Rattle.embed.proofs.tramcheck_verdict.Statement.{statement}
 use Rattle.embed.proofs.tramcheck_verdict.Tie as tie
 
-verdict-packed-requires : tie.Need-verdict-packed-requires
-verdict-packed-requires c κs = search needs
-
-tell-requires : tie.Need-tell-requires
-tell-requires c κs = search needs
-
-same-length : tie.Need-same-length
-same-length c = search needs
-
 returns : tie.Need-returns
 returns c =
     let v = c .before .before .before .before .before .verdict-packed .ensures in
@@ -19,4 +10,4 @@ returns c =
 
 pub tramcheck-verdict-spec : {M : Type 1} → statement M
 tramcheck-verdict-spec =
-    tie.close (tie.spec verdict-packed-requires tell-requires same-length returns)
+    tie.close (tie.spec (λ c κs. search needs) (λ c κs. search needs) (λ c. search needs) returns)

@@ -3,18 +3,6 @@ use borrow.Author.Needs.{needs}
 use Rattle.embed.proofs.tramcheck_verdict_unpacked.Statement.{statement}
 use Rattle.embed.proofs.tramcheck_verdict_unpacked.Tie as tie
 
-case-in-requires : tie.Need-case-in-requires
-case-in-requires c κs = search needs
-
-verdict-requires : tie.Need-verdict-requires
-verdict-requires c κs = search needs
-
-tell-requires : tie.Need-tell-requires
-tell-requires c κs = search needs
-
-same-length : tie.Need-same-length
-same-length c = search needs
-
 returns : tie.Need-returns
 returns c =
     let v = c .before .before .before .before .before in
@@ -23,4 +11,4 @@ returns c =
 
 pub tramcheck-verdict-unpacked-spec : {M : Type 1} → statement M
 tramcheck-verdict-unpacked-spec =
-    tie.close (tie.spec case-in-requires verdict-requires tell-requires same-length returns)
+    tie.close (tie.spec (λ c κs. search needs) (λ c κs. search needs) (λ c κs. search needs) (λ c. search needs) returns)

@@ -6,12 +6,6 @@ use Rattle.embed.specs.Numbers.{withCount}
 use Rattle.embed.proofs.with_count.Statement.{statement}
 use Rattle.embed.proofs.with_count.Tie as tie
 
-enum-known-judged : tie.Need-enum-known-judged
-enum-known-judged c = search needs
-
-enum-told : tie.Need-enum-told
-enum-told c = search needs
-
 returns : tie.Need-returns
 returns c = sym (ap (λ (j : Judged). withCount j (c .before .before .before .args .count)) (c .before .judged .given .1))
 
@@ -19,4 +13,4 @@ returns-2 : tie.Need-returns-2
 returns-2 c = sym (ap (λ (j : Judged). withCount j (c .before .before .args .count)) (c .enum-told .given .1))
 
 pub with-count-spec : {M : Type 1} → statement M
-with-count-spec = tie.close (tie.spec enum-known-judged enum-told returns returns-2)
+with-count-spec = tie.close (tie.spec (λ c. search needs) (λ c. search needs) returns returns-2)

@@ -8,18 +8,6 @@ use Rattle.embed.proofs.Changed.{put}
 use Rattle.embed.proofs.with_entry.Statement.{statement}
 use Rattle.embed.proofs.with_entry.Tie as tie
 
-flag-requires : tie.Need-flag-requires
-flag-requires c κs = search needs
-
-array-write-flags : tie.Need-array-write-flags
-array-write-flags c = search needs
-
-mul-numbers : tie.Need-mul-numbers
-mul-numbers c = search needs
-
-array-set-from-numbers : tie.Need-array-set-from-numbers
-array-set-from-numbers c = search needs
-
 returns : tie.Need-returns
 returns c =
     let a = c .before .before .before .args in
@@ -28,4 +16,4 @@ returns c =
 
 pub with-entry-spec : {M : Type 1} → statement M
 with-entry-spec =
-    tie.close (tie.spec flag-requires array-write-flags mul-numbers array-set-from-numbers returns)
+    tie.close (tie.spec (λ c κs. search needs) (λ c. search needs) (λ c. search needs) (λ c. search needs) returns)

@@ -10,18 +10,6 @@ use Rattle.ints.proofs.Integers.{ints, pos-ud, neg-ud, sub-ud, opposite
 use Rattle.ints.proofs.sign_extended.Statement.{statement}
 use Rattle.ints.proofs.sign_extended.Tie as tie
 
-cast-result : tie.Need-cast-result
-cast-result c = search needs
-
-mul-result : tie.Need-mul-result
-mul-result c = search needs
-
-sub-result : tie.Need-sub-result
-sub-result c = search needs
-
-cast-result-2 : tie.Need-cast-result-2
-cast-result-2 c = search needs
-
 sub-result-2 : tie.Need-sub-result-2
 sub-result-2 c =
     let a = c .before .args in
@@ -41,6 +29,4 @@ returns-2 c =
     (omega (ints, neg-ud (pos (whole - raw)), sub-ud (pos raw) (pos whole), pos-ud (whole - raw), pos-ud raw, pos-ud whole))
 
 pub sign-extended-spec : {M : Type 1} → statement M
-sign-extended-spec =
-    tie.close
-    (tie.spec cast-result mul-result sub-result cast-result-2 sub-result-2 returns returns-2)
+sign-extended-spec = tie.close (tie.spec (λ c. search needs) (λ c. search needs) (λ c. search needs) (λ c. search needs) sub-result-2 returns returns-2)

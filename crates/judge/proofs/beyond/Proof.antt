@@ -4,9 +4,6 @@ use Rattle.model.specs.Faults.{beyond}
 use Rattle.judge.proofs.beyond.Statement.{statement}
 use Rattle.judge.proofs.beyond.Tie as tie
 
-beyond-requires : tie.Need-beyond-requires
-beyond-requires c κs = search needs
-
 returns : tie.Need-returns
 unfolding beyond
 returns c = simp (c .before .if1 .taken, c .beyond .ensures)
@@ -16,4 +13,4 @@ unfolding beyond
 returns-2 c = simp (c .if1 .left)
 
 pub beyond-spec : {M : Type 1} → statement M
-beyond-spec = tie.close (tie.spec beyond-requires returns returns-2)
+beyond-spec = tie.close (tie.spec (λ c κs. search needs) returns returns-2)

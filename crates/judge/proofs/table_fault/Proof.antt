@@ -8,15 +8,9 @@ use Rattle.judge.specs.Judgement.{judgedBy}
 use Rattle.judge.proofs.table_fault.Statement.{statement}
 use Rattle.judge.proofs.table_fault.Tie as tie
 
-outside-requires : tie.Need-outside-requires
-outside-requires c κs = search needs
-
 returns : tie.Need-returns
 unfolding tableFault judgedBy
 returns c = simp (sym (c .before .outside .ensures) ∙ c .if1 .taken)
-
-outside-requires-2 : tie.Need-outside-requires-2
-outside-requires-2 c κs = search needs
 
 returns-2 : tie.Need-returns-2
 unfolding tableFault judgedBy
@@ -39,4 +33,4 @@ returns-3 c =
     c .rows-fault .ensures ∙ simp (sym (d .before .outside .ensures) ∙ d .if1 .left, sym (e .before .outside2 .ensures) ∙ e .if2 .left)
 
 pub table-fault-spec : {M : Type 1} → statement M
-table-fault-spec = tie.close (tie.spec outside-requires returns outside-requires-2 returns-2 rows-fault-requires returns-3)
+table-fault-spec = tie.close (tie.spec (λ c κs. search needs) returns (λ c κs. search needs) returns-2 rows-fault-requires returns-3)

@@ -2,62 +2,63 @@
 use borrow.Author.Needs.{needs}
 use borrow.Author.Tests.{not-true, not-false}
 use native.Mathlib.Omega.{arith}
-use Prim.Native.Nat.{_+_, _*_, _≤_}
-use mathlib.Core.Path.{_≡_, refl, sym}
+use mathlib.Core.Path.{_≡_, refl, sym, ap, _∙_}
+use mathlib.Core.Option.{some}
 use lib.ListN.{length, take}
-use lib.Seq.{length-take-le}
+use Rattle.model.specs.Sizes.{zoneSize}
 use Rattle.model.specs.Matrix.{tighten}
 use Rattle.model.specs.Search.{common}
-use Rattle.lists.proofs.Memory.{stored-beyond}
-use Rattle.lists.proofs.Columns.{few-bounds}
-use Rattle.zones.proofs.ReadyZones.{left-none, left-some}
-use Rattle.lists.proofs.Starting.{target-none, target-some, target-ready}
+use Rattle.model.proofs.Listed.{of-both}
+use Rattle.memory.proofs.Places.{zone-fits}
+use Rattle.zones.proofs.Leaving.{left-none, left-some}
+use Rattle.lists.proofs.places.Zones.{beyond-same, stored-else, stored-at}
+use Rattle.lists.proofs.Arrays.{part-long}
+use Rattle.lists.proofs.Starting.{common-ready, target-none, target-some}
 use Rattle.lists.proofs.first_list.Statement.{statement}
 use Rattle.lists.proofs.first_list.Tie as tie
 
--- the array has room for a zone
-fits : (c : tie.After-meet) → let n = c .before .before .args .n in (n + 1) * (n + 1) ≤ length (c .meet .result .zone)
-fits c = omega (arith, few-bounds (c .before .before .pre .0 .few), c .meet .ensures .1)
-
 all-times-requires : tie.Need-all-times-requires
-all-times-requires c κs = (c .pre .0 .any, c .pre .0 .few)
+all-times-requires c κs = c .pre .0 .limits .departures
 
 meet-requires : tie.Need-meet-requires
 meet-requires c κs =
-    let a = c .before .args in
-    (target-ready (a .n) (a .pattern .now) (a .work .now) (c .before .pre .0) (c .all-times .result) (c .all-times .ensures .0), c .all-times .ensures .1)
+    let m = c .before .pre .0 in
+    (common-ready _ m (rw (c .all-times .ensures .0) (of-both (m .each) .0)), c .all-times .ensures .1)
 
 returns : tie.Need-returns
 unfolding tighten common
 returns c =
     let m = c .before .before in
-    let a = m .before .before .args in (
-      target-none (a .n) (a .pattern .now) (a .work .now)
-          (left-none (rw (m .before .all-times .ensures .0) at (m .meet .ensures .0)) (not-true (m .meet .result .some) (c .if1 .taken))),
-      omega arith,
-      refl,
-    )
+    let a = m .before .before .args in
+    record {
+      list = target-none (a .n) (a .pattern .now) (a .work .now)
+          (left-none (rw (m .before .all-times .ensures .0) at (m .meet .ensures .left)) (not-true (m .meet .result .some) (c .if1 .taken)));
+      few = omega arith;
+      beyond = refl;
+    }
 
-add-size : tie.Need-add-size
-add-size c = search needs
+zone-size-requires : tie.Need-zone-size-requires
+zone-size-requires c κs = search needs
 
-add-size-2 : tie.Need-add-size-2
-add-size-2 c = search needs
-
-mul-size : tie.Need-mul-size
-mul-size c = search needs
+-- the numbers of the zone in its array
+fits : (c : tie.After-zone-size) → length (take (c .zone-size .result) (c .before .before .before .before .meet .result .zone)) ≡ c .zone-size .result
+fits c =
+    let m = c .before .before .before .before in
+    part-long (m .before .before .pre .0 .limits .departures) (c .zone-size .ensures) (m .meet .result .zone) (m .meet .ensures .long)
 
 array-share-prefix-zone : tie.Need-array-share-prefix-zone
-array-share-prefix-zone c = fits (c .before .before .before .before)
+array-share-prefix-zone c =
+    let z = c .before in
+    let m = z .before .before .before .before in
+    omega (arith, zone-fits (m .before .before .pre .0 .limits .departures), z .zone-size .ensures, m .meet .ensures .long)
 
 slice-aggregate-store : tie.Need-slice-aggregate-store
-slice-aggregate-store c = let m = c .before .before .before .before .before in sym (length-take-le _ (m .meet .result .zone) (fits m))
+slice-aggregate-store c = sym (fits (c .before .before))
 
 store-requires : tie.Need-store-requires
 store-requires c κs =
-    let m = c .before .before .before .before .before in
-    let b = m .before .before in
-    (length-take-le _ (m .meet .result .zone) (fits m), few-bounds (b .pre .0 .few), omega arith, omega (arith, b .pre .1))
+    let z = c .before .before in
+    (fits z, omega (arith, z .zone-size .ensures, z .before .before .before .before .before .before .pre .1))
 
 same-length : tie.Need-same-length
 same-length c = search needs
@@ -65,19 +66,23 @@ same-length c = search needs
 returns-2 : tie.Need-returns-2
 unfolding tighten common
 returns-2 c =
-    let e = c .before .before .before .before .before in
+    let s = c .before in
+    let z = s .before .before .before in
+    let e = z .before .before in
     let m = e .before .before in
     let b = m .before .before in
     let a = b .args in
-    let size = (a .n + 1) * (a .n + 1) in
-    let zone = take size (m .meet .result .zone) in
-    let long : length zone ≡ size = length-take-le size (m .meet .result .zone) (fits m) in
-    rw (c .before .store .ensures) (
-      target-some (a .n) (a .pattern .now) (a .work .now) zone long (b .pre .1)
-          (left-some (rw (m .before .all-times .ensures .0) at (m .meet .ensures .0)) (not-false (m .meet .result .some) (e .if1 .left))),
-      omega arith,
-      stored-beyond size (a .work .now) zone 0 long (omega (arith, b .pre .1)) size (omega arith),
-    )
+    let size = z .zone-size .ensures in
+    let zone = take (zoneSize (a .n)) (m .meet .result .zone) in
+    let long : length zone ≡ zoneSize (a .n) = rw size at (fits z) in
+    let stored = stored-else (zoneSize (a .n)) 0 (a .work .now) zone long (omega (arith, b .pre .1)) in
+    let there = stored-at (zoneSize (a .n)) 0 (a .work .now) zone long (omega (arith, b .pre .1)) in
+    let target = left-some (rw (m .before .all-times .ensures .0) at (m .meet .ensures .left)) (not-false (m .meet .result .some) (e .if1 .left)) in
+    rw (s .store .ensures, size) (record {
+      list = target-some (a .n) (a .pattern .now) (a .work .now) stored (target ∙ ap some (sym there));
+      few = omega arith;
+      beyond = beyond-same stored (zoneSize (a .n)) (omega arith);
+    })
 
 pub first-list-spec : {M : Type 1} → statement M
 first-list-spec =
@@ -86,9 +91,7 @@ first-list-spec =
     all-times-requires
     meet-requires
     returns
-    add-size
-    add-size-2
-    mul-size
+    zone-size-requires
     array-share-prefix-zone
     slice-aggregate-store
     store-requires

@@ -1,38 +1,28 @@
 -- From the set of all times and the clock's column on, row 1 first.
 use borrow.Author.Needs.{needs}
-use native.Mathlib.Omega.{arith}
-use Prim.Native.Nat.{_+_, _*_}
-use mathlib.Core.Path.{_≡_, sym, _∙_}
-use lib.ListN.{length, take}
-use lib.Seq.{length-take-le}
-use Rattle.zones.specs.Memory.{timesIn}
+use mathlib.Core.Path.{refl, sym}
+use Rattle.memory.specs.Numbers.{timesIn}
 use Rattle.lists.specs.Lists.{partIn}
-use Rattle.lists.proofs.Columns.{square, few-bounds}
+use Rattle.lists.proofs.Arrays.{part-room, part-long, part-zone}
 use Rattle.lists.proofs.Starting.{first-set, none-noted, preimages}
 use Rattle.lists.proofs.pull_back.Statement.{statement}
 use Rattle.lists.proofs.pull_back.Tie as tie
 
--- the zone's numbers are the first of its array
-zone-long : (c : tie.Start) → let a = c .args in length (take ((a .n + 1) * (a .n + 1)) (a .t5)) ≡ (a .n + 1) * (a .n + 1)
-zone-long c = length-take-le _ (c .args .t5) (omega (arith, few-bounds (c .pre .1 .few), c .pre .2))
-
-add-size : tie.Need-add-size
-add-size c = search needs
-
-add-size-2 : tie.Need-add-size-2
-add-size-2 c = search needs
-
-mul-size : tie.Need-mul-size
-mul-size c = search needs
+zone-size-requires : tie.Need-zone-size-requires
+zone-size-requires c κs = c .pre .sources .table .departures .few
 
 all-times-requires : tie.Need-all-times-requires
-all-times-requires c κs = (c .pre .1 .any, c .pre .1 .few)
+all-times-requires c κs = c .before .pre .sources .table .departures
 
 array-share-prefix-zone : tie.Need-array-share-prefix-zone
-array-share-prefix-zone c = search needs
+array-share-prefix-zone c =
+    let z = c .before .before in
+    part-room (z .before .pre .sources .table .departures) (z .zone-size .ensures) (z .before .args .t5) (z .before .pre .zone-size)
 
 slice-aggregate-select : tie.Need-slice-aggregate-select
-slice-aggregate-select c = sym (zone-long (c .before .before .before))
+slice-aggregate-select c =
+    let z = c .before .before .before in
+    sym (part-long (z .before .pre .sources .table .departures) (z .zone-size .ensures) (z .before .args .t5) (z .before .pre .zone-size))
 
 slice-aggregate-select-2 : tie.Need-slice-aggregate-select-2
 slice-aggregate-select-2 c = search needs
@@ -40,8 +30,19 @@ slice-aggregate-select-2 c = search needs
 select-requires : tie.Need-select-requires
 select-requires c κs =
     let e = c .before .before .before .before in
-    let b = e .before in
-    (b .pre .0, first-set (b .pre .1) (zone-long b ∙ square (b .args .n)) (e .all-times .ensures .0) (e .all-times .ensures .1), none-noted (b .pre .3))
+    let z = e .before in
+    let b = z .before in
+    record {
+      room = b .pre .room;
+      start = record {
+        selecting =
+            let zone = part-zone (b .pre .sources .table .departures) (z .zone-size .ensures) (b .args .t5) (b .pre .zone-size) in
+            rw (e .all-times .ensures .0) (first-set (rw (z .zone-size .ensures) (b .pre .sources)) zone);
+        part-size = e .all-times .ensures .1;
+        cols-size = refl;
+      };
+      noted = none-noted (b .pre .seen-size);
+    }
 
 same-length : tie.Need-same-length
 same-length c = search needs
@@ -52,16 +53,16 @@ same-length-2 c = search needs
 returns : tie.Need-returns
 returns c =
     let e = c .before .before .before .before .before .before .before .before in
-    let a = e .before .args in
-    rw (← (preimages (a .n) (timesIn (a .times .now)) (partIn (a .n) (a .t5))), ← (e .all-times .ensures .0)) (c .before .before .before .select .ensures .0)
+    let z = e .before in
+    let a = z .before .args in
+    rw (← (preimages (a .n) (timesIn (a .times .now)) (partIn (a .n) (a .t5))), ← (e .all-times .ensures .0))
+    (rw (z .zone-size .ensures) at (c .before .before .before .select .ensures .held))
 
 pub pull-back-spec : {M : Type 1} → statement M
 pull-back-spec =
     tie.close
     (tie.spec
-    add-size
-    add-size-2
-    mul-size
+    zone-size-requires
     all-times-requires
     array-share-prefix-zone
     slice-aggregate-select

@@ -6,6 +6,7 @@ use Prim.Native.Nat.{_+_, _-_, _*_, _%_, _≤_}
 use native.Mathlib.Omega.{arith}
 use lib.ListN.{length}
 use Rattle.model.specs.Packed.{got, zeros, fill}
+use Rattle.packed.specs.Readings.{From}
 use Rattle.packed.proofs.Laws.{zeros-turn, zeros-end}
 use Rattle.packed.proofs.padding.Statement.{statement}
 use Rattle.packed.proofs.padding.Tie as tie
@@ -16,29 +17,43 @@ Inv-loop s at count i₀ i = (i ≤ count) × (zeros s count at ≡ zeros s (cou
 abbrev μ-loop : tie.MeasureT-loop
 μ-loop s at count i₀ i = count - i
 
+enum-told : tie.Need-enum-told Inv-loop μ-loop
+enum-told c = search needs
+
+returns : tie.Need-returns Inv-loop μ-loop
+returns c = rw (c .enum-told .given .1)
+
+enum-known-from : tie.Need-enum-known-from Inv-loop μ-loop
+enum-known-from c = search needs
+
 sub-count : tie.Need-sub-count Inv-loop μ-loop
 sub-count c = search needs
 
+-- the place where the filling starts
+starts : (c : tie.After-known-told Inv-loop μ-loop) → From (c .before .before .before .before .args .s .now) 0 (c .before .from .given .0 .0 .at)
+starts c = rw (c .before .from .given .1) at (c .before .before .before .before .pre)
+
 loop-holds : tie.Need-loop-holds Inv-loop μ-loop
 loop-holds c =
-    let p = c .before .args .start .at in
+    let p = c .before .from .given .0 .0 .at in
     let k = (8 - p % 8) % 8 in
     let z : k ≡ k - 0 = omega arith in
     let y : p ≡ p + 0 = omega arith in
     (omega arith, cc)
 
 add-place : tie.Need-add-place Inv-loop μ-loop
-add-place c = search needs
+add-place c = omega (arith, starts (c .before .before))
 
 bit-at-requires : tie.Need-bit-at-requires Inv-loop μ-loop
-bit-at-requires c κs = search needs
+bit-at-requires c κs = omega (arith, starts (c .before .before))
 
-returns : tie.Need-returns Inv-loop μ-loop
+returns-2 : tie.Need-returns-2 Inv-loop μ-loop
 unfolding fill
-returns c =
+returns-2 c =
     let u = c .before .before in
     let l = u .before .loop in
-    simp (l .inv .1 ∙ zeros-turn _ _ _ _ (u .loop-test .taken), ne-eqb _ 0 (λ z. c .if1 .taken (c .before .bit-at .ensures ∙ z)))
+    rw (u .before .before .before .from .given .1)
+    (sym (simp (l .inv .1 ∙ zeros-turn _ _ _ _ (u .loop-test .taken), ne-eqb _ 0 (λ z. c .if1 .taken (c .before .bit-at .ensures ∙ z)))))
 
 add-i : tie.Need-add-i Inv-loop μ-loop
 add-i c = search needs
@@ -50,39 +65,41 @@ loop-again : tie.Need-loop-again Inv-loop μ-loop
 loop-again c =
     let u = c .before .before in
     let l = u .before .loop in
-    let a = u .before .before .before .args in
-    let k = (8 - a .start .at % 8) % 8 in
-    let y : a .start .at + l .i + 1 ≡ a .start .at + (l .i + 1) = omega arith in (
+    let p = u .before .before .before .from .given .0 .0 .at in
+    let y : p + l .i + 1 ≡ p + (l .i + 1) = omega arith in (
       omega (arith, u .loop-test .taken),
       l .inv .1 ∙ zeros-turn _ _ _ _ (u .loop-test .taken)
           ∙ simp (eq-eqb _ 0 (sym (c .before .bit-at .ensures) ∙ c .if1 .left), y),
     )
 
 add-end : tie.Need-add-end Inv-loop μ-loop
-add-end c = search needs
+add-end c = omega (arith, starts (c .before .before))
 
 -- the filling is read to its end
 filled : (c : tie.After-loop Inv-loop μ-loop) →
-    let a = c .before .before .before .args in
-    let k = (8 - a .start .at % 8) % 8 in
-    zeros (a .s .now) k (a .start .at) ≡ got 0 (a .start .at + k)
+    let f = c .before .before .before in
+    let p = f .from .given .0 .0 .at in
+    let k = (8 - p % 8) % 8 in
+    zeros (f .before .before .before .args .s .now) k p ≡ got 0 (p + k)
 filled c =
     let l = c .before .loop in
     l .inv .1 ∙ zeros-end _ _ _ _ (c .loop-test .left) ∙ ap (got 0) (omega arith)
 
-returns-2 : tie.Need-returns-2 Inv-loop μ-loop
-unfolding fill
-returns-2 c =
-    let a = c .before .before .before .before .args in
-    let p = a .start .at in
-    simp (filled (c .before), ne-eqb (p + (8 - p % 8) % 8) (8 * length (a .s .now)) (λ e. omega arith))
-
 returns-3 : tie.Need-returns-3 Inv-loop μ-loop
 unfolding fill
 returns-3 c =
-    let a = c .before .before .before .before .args in
-    let p = a .start .at in
-    simp (filled (c .before), eq-eqb (p + (8 - p % 8) % 8) (8 * length (a .s .now)) (omega arith))
+    let t = c .before .before .before in
+    let p = t .before .from .given .0 .0 .at in
+    rw (t .before .from .given .1)
+    (simp (filled (c .before), ne-eqb (p + (8 - p % 8) % 8) (8 * length (t .before .before .before .before .args .s .now)) (λ e. omega arith)))
+
+returns-4 : tie.Need-returns-4 Inv-loop μ-loop
+unfolding fill
+returns-4 c =
+    let t = c .before .before .before in
+    let p = t .before .from .given .0 .0 .at in
+    rw (t .before .from .given .1)
+    (simp (filled (c .before), eq-eqb (p + (8 - p % 8) % 8) (8 * length (t .before .before .before .before .args .s .now)) (omega (arith, starts t))))
 
 pub padding-spec : {M : Type 1} → statement M
 padding-spec =
@@ -90,14 +107,17 @@ padding-spec =
     (tie.spec
     Inv-loop
     μ-loop
+    enum-told
+    returns
+    enum-known-from
     sub-count
     loop-holds
     add-place
     bit-at-requires
-    returns
+    returns-2
     add-i
     loop-less
     loop-again
     add-end
-    returns-2
-    returns-3)
+    returns-3
+    returns-4)

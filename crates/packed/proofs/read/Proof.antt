@@ -3,6 +3,7 @@ use borrow.Author.Needs.{needs}
 use borrow.Author.Tests.{ne-eqb}
 use mathlib.Core.Path.{_≡_, sym, ap, _∙_}
 use native.Mathlib.Omega.{arith}
+use Rattle.model.specs.Sizes.{departuresWidth, horizonWidth}
 use Rattle.model.specs.Packed.{got, bits, parse}
 use Rattle.packed.specs.Readings.{fieldRead}
 use Rattle.model.proofs.Parsed.{given}
@@ -10,13 +11,13 @@ use Rattle.packed.proofs.Laws.{bits-give}
 use Rattle.packed.proofs.read.Statement.{statement}
 use Rattle.packed.proofs.read.Tie as tie
 
-n-read : (c : tie.After-n) → bits (c .before .before .before .before .args .s .now) 3 0 0 ≡ got (c .n .given .0 .0) (c .n .given .0 .1 .0 .at)
+n-read : (c : tie.After-n) → bits (c .before .before .before .before .args .s .now) departuresWidth 0 0 ≡ got (c .n .given .0 .0) (c .n .given .0 .1 .0 .at)
 n-read c = sym (c .before .before .bits .ensures 0) ∙ ap (fieldRead 0) (c .n .given .1)
 
 m-read : (c : tie.After-m) →
     let d = c .before .before .before .before .before in
     let p = d .n .given .0 .1 .0 .at in
-    bits (d .before .before .before .before .args .s .now) 6 p p ≡ got (c .m .given .0 .0) (c .m .given .0 .1 .0 .at)
+    bits (d .before .before .before .before .args .s .now) horizonWidth p p ≡ got (c .m .given .0 .0) (c .m .given .0 .1 .0 .at)
 m-read c =
     let p = c .before .before .before .before .before .n .given .0 .1 .0 .at in
     sym (c .before .before .bits2 .ensures p) ∙ ap (fieldRead p) (c .m .given .1)
@@ -49,7 +50,7 @@ returns-2 c =
     c .refused2 .ensures ∙ simp (rw (e .if1 .taken) at (n-read (e .before .before)))
 
 bits-requires-2 : tie.Need-bits-requires-2
-bits-requires-2 c κs = let n = given (bits-give _ 3 0 0) (n-read (c .before .before)) in omega arith
+bits-requires-2 c κs = let n = given (bits-give _ departuresWidth 0 0) (n-read (c .before .before)) in omega arith
 
 enum-known-m : tie.Need-enum-known-m
 enum-known-m c = search needs
@@ -82,8 +83,8 @@ cast-rest c = search needs
 rest-requires : tie.Need-rest-requires
 rest-requires c κs =
     let e = c .before in
-    let n = given (bits-give _ 3 0 0) (n-read (e .before .before .before .before .before)) in
-    let m = given (bits-give _ 6 _ _) (m-read e) in
+    let n = given (bits-give _ departuresWidth 0 0) (n-read (e .before .before .before .before .before)) in
+    let m = given (bits-give _ horizonWidth _ _) (m-read e) in
     omega arith
 
 returns-4 : tie.Need-returns-4

@@ -1,17 +1,14 @@
 -- The two numbers' bits, and those of the three arrays.
-use borrow.Author.Needs.{needs}
+use native.Mathlib.Numerals.{add-one}
 use native.Mathlib.Omega.{arith}
 use lib.ListN.{length-append}
-use Rattle.packer.proofs.Spelling.{field-length}
+use Rattle.model.proofs.Spelled.{length-field}
 use Rattle.packer.proofs.Sound.{Sound, sound, case-length}
 use Rattle.packer.proofs.case_length.Statement.{statement}
 use Rattle.packer.proofs.case_length.Tie as tie
 
-keeps : (c : tie.After-widened) → Sound (c .before .before .args .case) (c .widened .result)
-keeps c = let s = c .before .before in sound (s .args .case) (c .widened .result) (s .pre) (c .widened .ensures)
-
-widened-requires : tie.Need-widened-requires
-widened-requires c κs = search needs
+keeps : (c : tie.Start) → Sound (c .args .case)
+keeps c = sound (c .args .case) (c .pre)
 
 add-size : tie.Need-add-size
 add-size c = omega (arith, keeps c)
@@ -20,38 +17,43 @@ mul-size : tie.Need-mul-size
 mul-size c = omega (arith, keeps c)
 
 mul-entries-length : tie.Need-mul-entries-length
-mul-entries-length c = omega (arith, keeps (c .before .before))
+mul-entries-length c = omega (arith, keeps (c .before .before .before))
 
 entries-length-requires : tie.Need-entries-length-requires
-entries-length-requires c κs = omega (arith, keeps (c .before .before))
+entries-length-requires c κs = omega (arith, keeps (c .before .before .before))
 
 add-result : tie.Need-add-result
-add-result c = omega (arith, keeps (c .before .before .before))
+add-result c = omega (arith, keeps (c .before .before .before .before))
 
 entries-length-requires-2 : tie.Need-entries-length-requires-2
-entries-length-requires-2 c κs = omega (arith, keeps (c .before .before .before))
+entries-length-requires-2 c κs = omega (arith, keeps (c .before .before .before .before))
 
 add-result-2 : tie.Need-add-result-2
-add-result-2 c = omega (arith, keeps (c .before .before .before .before))
+add-result-2 c = omega (arith, keeps (c .before .before .before .before .before))
 
 entries-length-requires-3 : tie.Need-entries-length-requires-3
-entries-length-requires-3 c κs = omega (arith, keeps (c .before .before .before .before))
+entries-length-requires-3 c κs = omega (arith, keeps (c .before .before .before .before .before))
 
 add-result-3 : tie.Need-add-result-3
-add-result-3 c = omega (arith, keeps (c .before .before .before .before .before))
+add-result-3 c = omega (arith, keeps (c .before .before .before .before .before .before))
 
 returns : tie.Need-returns
 returns c =
-    let w = c .before .before .before .before .before in
-    let s = w .before .before in
-    let long = case-length (s .args .case) (w .widened .result) (s .pre) (w .widened .ensures) in
-    (omega (arith, simp (length-append, field-length) at long), omega (arith, keeps w))
+    let b = c .before .before .before .before .before .before in
+    let a = b .args .case in
+    let s = keeps b in (
+      omega (arith, simp (length-append, length-field, ← (add-one (a .n))) at (case-length a)),
+      record {
+        times = omega (arith, s .times .within);
+        start = omega (arith, s .start .within);
+        target = omega (arith, s .target .within);
+      },
+    )
 
 pub case-length-spec : {M : Type 1} → statement M
 case-length-spec =
     tie.close
     (tie.spec
-    widened-requires
     add-size
     mul-size
     mul-entries-length

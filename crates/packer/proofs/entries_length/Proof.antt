@@ -1,9 +1,10 @@
 -- Entry by entry: the bits of the first i.
-use Prim.Native.Nat.{_-_, _*_, _≤_}
+use Prim.Native.Nat.{_+_, _-_, _*_, _≤_}
 use native.Mathlib.Omega.{arith}
 use mathlib.Core.Path.{_≡_, ap, _∙_}
 use mathlib.Core.List.{flatMap}
 use lib.ListN.{length, take, length-append}
+use Rattle.model.specs.Sizes.{boundWidth}
 use Rattle.model.specs.Writing.{entriesBits}
 use Rattle.packer.specs.Ink.{ofWidth}
 use Rattle.packer.proofs.Parts.{entries-next}
@@ -11,7 +12,7 @@ use Rattle.packer.proofs.entries_length.Statement.{statement}
 use Rattle.packer.proofs.entries_length.Tie as tie
 
 abbrev Inv-loop : tie.InvT-loop
-Inv-loop count width slots total₀ i₀ total i = (i ≤ count) × (total ≡ length (entriesBits (ofWidth width) (take i slots))) × (total ≤ 25 * i)
+Inv-loop count width slots total₀ i₀ total i = (i ≤ count) × (total ≡ length (entriesBits (ofWidth width) (take i slots))) × (total ≤ (1 + boundWidth) * i)
 
 abbrev μ-loop : tie.MeasureT-loop
 μ-loop count width slots total₀ i₀ total i = count - i
@@ -49,7 +50,7 @@ loop-again c =
 returns : tie.Need-returns Inv-loop μ-loop
 returns c =
     let e : c .before .loop .i ≡ c .before .before .args .count = omega arith in
-    (rw e at (c .before .loop .inv .1), omega arith)
+    (rw e at (c .before .loop .inv .1), omega arith, omega arith)
 
 pub entries-length-spec : {M : Type 1} → statement M
 entries-length-spec =

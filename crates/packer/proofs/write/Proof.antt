@@ -4,14 +4,20 @@ use borrow.Author.Tests.{lt-ltb, le-ltb}
 use Prim.Native.Nat.{_+_, _/_}
 use native.Mathlib.Omega.{arith}
 use mathlib.Core.Path.{_≡_}
-use mathlib.Core.Option.{none}
+use mathlib.Core.Option.{Option, none, some}
 use lib.ListN.{length}
+use Rattle.ints.proofs.Integers.{impossible}
 use Rattle.model.specs.Faults.{caseFault}
 use Rattle.model.specs.Writing.{caseBits, packedBytes, roomFor, writeFault, told, outputAfter}
 use Rattle.judge.proofs.Laws.{refused-for, accepted}
 use Rattle.model.proofs.Bytes.{length-bytes}
+use Rattle.model.proofs.Writer.{longest}
 use Rattle.packer.proofs.write.Statement.{statement}
 use Rattle.packer.proofs.write.Tie as tie
+
+-- a fault, and none
+not-both : {X : Type 0} {A : Type 0} {o : Option X} {x : X} → o ≡ some x → o ≡ none → A
+not-both e h = impossible cc
 
 case-fault-requires : tie.Need-case-fault-requires
 case-fault-requires c κs = search needs
@@ -24,7 +30,7 @@ unfolding writeFault told outputAfter
 returns c =
     let f = c .before in
     let e = refused-for _ (f .before .before .case-fault .ensures) (f .f .given .1) in
-    (simp e, simp e)
+    record { answer = simp e; output = simp e; whole = not-both e }
 
 enum-told : tie.Need-enum-told
 enum-told c = search needs
@@ -36,14 +42,14 @@ clean c = accepted _ (c .before .before .case-fault .ensures) (c .enum-told .giv
 case-length-requires : tie.Need-case-length-requires
 case-length-requires c κs = clean c
 
-add-needed : tie.Need-add-needed
-add-needed c = search needs
-
 -- the bytes that it takes
 needed : (c : tie.After-case-length) →
     (c .case-length .result + 7) / 8 ≡ length (packedBytes (c .before .before .before .before .before .args .case))
 unfolding packedBytes
 needed c = rw (c .case-length .ensures .0, length-bytes (caseBits (c .before .before .before .before .before .args .case)))
+
+add-needed : tie.Need-add-needed
+add-needed c = omega (arith, needed c, longest _ (clean (c .before)))
 
 returns-2 : tie.Need-returns-2
 unfolding writeFault roomFor told outputAfter
@@ -51,7 +57,11 @@ returns-2 c =
     let d = c .before in
     let a = d .before .before .before .before .before .args in
     let short = lt-ltb (length (a .out .now)) (length (packedBytes (a .case))) (omega (arith, needed d)) in
-    (simp (clean (d .before), short, needed d), simp (clean (d .before), short))
+    record {
+      answer = simp (clean (d .before), short, needed d);
+      output = simp (clean (d .before), short);
+      whole = λ h. d .case-length .ensures .1;
+    }
 
 put-case-requires : tie.Need-put-case-requires
 put-case-requires c κs =
@@ -68,7 +78,11 @@ returns-3 c =
     let d = p .before .before .before in
     let a = d .before .before .before .before .before .args in
     let enough = le-ltb (length (a .out .now)) (length (packedBytes (a .case))) (omega (arith, needed d)) in
-    (simp (clean (d .before), enough, needed d), simp (clean (d .before), enough) (p .put-case .ensures))
+    record {
+      answer = simp (clean (d .before), enough, needed d);
+      output = simp (clean (d .before), enough) (p .put-case .ensures);
+      whole = λ h. d .case-length .ensures .1;
+    }
 
 pub write-spec : {M : Type 1} → statement M
 write-spec =

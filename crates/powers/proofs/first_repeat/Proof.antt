@@ -11,12 +11,12 @@ use lib.IntN.{pos}
 use lib.ListN.{getD}
 use Rattle.ints.specs.declared.Seconds.{Seconds}
 use Rattle.model.specs.Network.{Time, power, gap}
-use Rattle.model.specs.Faults.{nothing}
-use Rattle.powers.specs.Readings.{entries, tableOf}
-use Rattle.powers.proofs.Places.{few-entries}
-use Rattle.powers.proofs.Holding.{Holding, holding-none, holding-more, holding-done}
-use Rattle.powers.proofs.Searching.{Apart, gap-none, Read, apart-more, gap-stops, gap-fits, alike-read, Agree, New}
-use Rattle.powers.proofs.Searching.{Looked, looked-start, long, now-at, looked-sized, looked-read, looked-passes, looked-stops, looked-more, looked-all}
+use Rattle.model.specs.Sizes.{mostCycles, tableSize, mostTimes}
+use Rattle.model.specs.Faults.{nothing, tableOf}
+use Rattle.model.proofs.Places.{table-fits}
+use Rattle.powers.proofs.Holding.{Held, held-to, held-more}
+use Rattle.powers.proofs.Searching.{Apart, gap-none, Read, apart-more, gap-stops, gap-fits, alike-read, Agree, New, Looked, looked-start, long, now-at}
+use Rattle.powers.proofs.Searching.{looked-factors, looked-read, looked-passes, looked-stops, looked-more, looked-all}
 use Rattle.powers.proofs.first_repeat.Statement.{statement}
 use Rattle.powers.proofs.first_repeat.Tie as tie
 
@@ -24,15 +24,15 @@ abbrev Inv-loop2 : tie.InvT-loop2
 Inv-loop2 times n size ps pw r p number₀ k₀ number k = let a = tableOf n times in (number .0 ≡ pos 0) × Apart (power n a p) (power n a r) k
 
 abbrev μ-loop2 : tie.MeasureT-loop2
-μ-loop2 times n size ps pw r p number₀ k₀ number k = n * n - k
+μ-loop2 times n size ps pw r p number₀ k₀ number k = tableSize n - k
 
 abbrev Inv-loop3 : tie.InvT-loop3
 Inv-loop3 times n size ps pw r p₀ number k₀ p k =
     let a = tableOf n times in
-    (p ≡ p₀) × (number .0 ≡ gap (power n a p) (power n a r)) × Agree (number .0) (power n a p) (power n a r) (n * n) k
+    (p ≡ p₀) × (number .0 ≡ gap (power n a p) (power n a r)) × Agree (number .0) (power n a p) (power n a r) (tableSize n) k
 
 abbrev μ-loop3 : tie.MeasureT-loop3
-μ-loop3 times n size ps pw r p₀ number k₀ p k = n * n - k
+μ-loop3 times n size ps pw r p₀ number k₀ p k = tableSize n - k
 
 abbrev Inv-earlier : tie.InvT-earlier
 Inv-earlier times n size ps pw r p₀ p = New n (tableOf n times) r p
@@ -41,16 +41,16 @@ abbrev μ-earlier : tie.MeasureT-earlier
 μ-earlier times n size ps pw r p₀ p = r - p
 
 abbrev Inv-loop4 : tie.InvT-loop4
-Inv-loop4 times n size ps₀ pw r k₀ ps k = Holding n (tableOf n times) r k ps
+Inv-loop4 times n size ps₀ pw r k₀ ps k = Held n (tableOf n times) (r * mostTimes + k) ps
 
 abbrev μ-loop4 : tie.MeasureT-loop4
-μ-loop4 times n size ps₀ pw r k₀ ps k = n * n - k
+μ-loop4 times n size ps₀ pw r k₀ ps k = tableSize n - k
 
 abbrev Inv-loop : tie.InvT-loop
 Inv-loop times n size ps₀ pw₀ r₀ ps pw r = Looked n (tableOf n times) r ps pw
 
 abbrev μ-loop : tie.MeasureT-loop
-μ-loop times n size ps₀ pw₀ r₀ ps pw r = 64 - r
+μ-loop times n size ps₀ pw₀ r₀ ps pw r = mostCycles - r
 
 -- a turn of the loop over the powers
 abbrev Turn : Type 0
@@ -66,11 +66,11 @@ met : (c : tie.In-loop2 Inv-loop2 μ-loop2 Inv-loop3 μ-loop3 Inv-earlier μ-ear
     let l = e .before .before .loop in
     let p = e .earlier .p in
     let k = c .before .loop2 .k in
-    Read (P (e .before) p) (P (e .before) (l .r)) k (getD (l .powers) (p * entries + k) nothing) (getD (l .power) k nothing)
+    Read (P (e .before) p) (P (e .before) (l .r)) k (getD (l .powers) (p * mostTimes + k) nothing) (getD (l .power) k nothing)
 met c =
     let e = c .before .before in
     let t = e .before .before in
-    looked-read (t .before .loop .inv) (e .before .earlier .p) (e .earlier-test .taken) (t .loop-test .taken) (c .before .loop2 .k) (c .loop2-test .taken)
+    looked-read (t .before .loop .inv) (t .loop-test .taken) (e .before .earlier .p) (e .earlier-test .taken) (c .before .loop2 .k) (c .loop2-test .taken)
 
 loop2-again : tie.Need-loop2-again Inv-loop2 μ-loop2 Inv-loop3 μ-loop3 Inv-earlier μ-earlier Inv-loop4 μ-loop4 Inv-loop μ-loop
 loop2-again c =
@@ -99,10 +99,10 @@ compared : (c : tie.In-loop3 Inv-loop2 μ-loop2 Inv-loop3 μ-loop3 Inv-earlier �
     let l = t .before .loop in
     let p = c .before .loop3 .p in
     let at = t .before .before .args .n * t .before .before .args .n - 1 - c .before .loop3 .k in
-    Read (P t p) (P t (l .r)) at (getD (l .powers) (p * entries + at) nothing) (getD (l .power) at nothing)
+    Read (P t p) (P t (l .r)) at (getD (l .powers) (p * mostTimes + at) nothing) (getD (l .power) at nothing)
 compared c =
     let t = c .before .before .before .before .before .before in
-    looked-read (t .before .loop .inv) (c .before .loop3 .p) (omega arith) (t .loop-test .taken) _ (omega arith)
+    looked-read (t .before .loop .inv) (t .loop-test .taken) (c .before .loop3 .p) (omega arith) _ (omega arith)
 
 earlier-again : tie.Need-earlier-again Inv-loop2 μ-loop2 Inv-loop3 μ-loop3 Inv-earlier μ-earlier Inv-loop4 μ-loop4 Inv-loop μ-loop
 earlier-again c =
@@ -111,7 +111,7 @@ earlier-again c =
     let i = u .before .loop3 .inv in
     let e = u .before .before .before .before in
     let t = e .before .before in
-    looked-passes (t .before .loop .inv) (u .before .loop3 .p) (omega arith) (t .loop-test .taken) (rw (i .0) (e .before .earlier .inv)) (i .1) _ (omega arith)
+    looked-passes (t .before .loop .inv) (t .loop-test .taken) (u .before .loop3 .p) (omega arith) (rw (i .0) (e .before .earlier .inv)) (i .1) _ (omega arith)
     (alike-read (compared u) _ (m .moved .ensures) ∙ not-true _ (c .if2 .taken))
 
 loop3-again : tie.Need-loop3-again Inv-loop2 μ-loop2 Inv-loop3 μ-loop3 Inv-earlier μ-earlier Inv-loop4 μ-loop4 Inv-loop μ-loop
@@ -126,7 +126,7 @@ returns c =
     let l = c .before .loop3 in
     let e = c .before .before .before .before in
     let t = e .before .before in
-    looked-stops (t .before .loop .inv) (l .p) (omega arith) (t .loop-test .taken) (rw (l .inv .0) (e .before .earlier .inv)) (l .inv .1) (l .k)
+    looked-stops (t .before .loop .inv) (t .loop-test .taken) (l .p) (omega arith) (rw (l .inv .0) (e .before .earlier .inv)) (l .inv .1) (l .k)
     (c .loop3-test .left) (l .inv .2)
 
 -- ---- the array
@@ -135,14 +135,15 @@ loop4-again c =
     let u = c .before in
     let t = u .before .before .before .before in
     let i = t .before .loop .inv in
-    holding-more (u .before .loop4 .inv) (i .few) (t .loop-test .taken) (u .loop4-test .taken) _ (now-at i (u .before .loop4 .k) (u .loop4-test .taken))
+    let l = u .before .loop4 in
+    held-more _ (l .k) (l .inv) (i .few) (t .loop-test .taken) (u .loop4-test .taken) _ (now-at i (l .k) (u .loop4-test .taken))
 
 loop-again : tie.Need-loop-again Inv-loop2 μ-loop2 Inv-loop3 μ-loop3 Inv-earlier μ-earlier Inv-loop4 μ-loop4 Inv-loop μ-loop
 loop-again c =
     let o = c .before in
     let d = o .before .before in
     looked-more (d .before .before .before .loop .inv) (λ s h. d .before .earlier .inv s (omega arith))
-    (holding-done (o .before .loop4 .inv) (o .loop4-test .left)) (c .product .ensures)
+    (held-to (o .before .loop4 .inv) _ (λ s j l h. omega (arith, d .before .before .before .loop .inv .few))) (c .product .ensures)
 
 pub first-repeat-spec : {M : Type 1} → statement M
 first-repeat-spec =
@@ -159,7 +160,7 @@ first-repeat-spec =
     Inv-loop
     μ-loop
     -- before the loop over the powers, and before that over the earlier ones
-    (λ c. omega (arith, few-entries (c .pre .few)))
+    (λ c. omega (arith, table-fits (c .pre .departures)))
     (λ c. looked-start (c .pre) (search needs) refl)
     (λ c s h. absurd (omega arith))
     -- the gap
@@ -184,7 +185,7 @@ first-repeat-spec =
     (λ c. omega arith)
     (λ c. omega arith)
     (λ c. omega arith)
-    (λ c κs. let r = compared (c .before .before) in (r .first-small, r .second-small))
+    (λ c κs. compared (c .before .before) .apart-fits)
     (λ c. omega arith)
     (λ c. omega arith)
     earlier-again
@@ -195,7 +196,7 @@ first-repeat-spec =
     (λ c. omega arith)
     returns
     -- the array
-    (λ c. holding-none (c .before .before .before .loop .inv .held))
+    (λ c. held-to (c .before .before .before .loop .inv .held) _ (λ s j l h. omega arith))
     (λ c. omega arith)
     (λ c. omega arith)
     (λ c. omega arith)
@@ -206,7 +207,7 @@ first-repeat-spec =
     (λ c. omega arith)
     loop4-again
     -- the next power
-    (λ c κs. let t = c .before .before .before .before in looked-sized (t .before .loop .inv) (t .loop-test .taken))
+    (λ c κs. let t = c .before .before .before .before in looked-factors (t .before .loop .inv) (t .loop-test .taken))
     (λ c. omega arith)
     (λ c. omega arith)
     loop-again

@@ -4,13 +4,12 @@ use borrow.Author.Tests.{not-true, not-false}
 use mathlib.Core.Path.{_≡_, refl}
 use mathlib.Core.Bool.{Bool, true, false, not, _&&_, _||_, cond}
 use lib.IntN.{ℤ, _+ℤ_, _-ℤ_}
-use lib.Signed.{_≤ℤ_, leZ}
-use Rattle.ints.proofs.Integers.{ints, add-ud, sub-ud}
+use lib.Signed.{leZ}
+use Rattle.ints.proofs.Integers.{ints, same-test, add-ud, sub-ud}
 use Rattle.model.specs.declared.Slot.{Slot}
 use Rattle.model.specs.Bound.{sameZ}
-use Rattle.model.specs.Network.{secs, blank, after, sameTime}
+use Rattle.model.specs.Network.{secs, blank, after, secsOf, sameTime}
 use Rattle.model.specs.Faults.{timeOf}
-use Rattle.powers.proofs.Bounded.{difference-fits}
 use Rattle.powers.proofs.Places.{both-times}
 use Rattle.powers.proofs.moved.Statement.{statement}
 use Rattle.powers.proofs.moved.Tie as tie
@@ -27,33 +26,24 @@ not-times a b c h = go (a .has) (b .has) h
     go true false k = refl
     go true true k = cc
 
--- tests of orders that are the same
-same-order : {a b c d : ℤ} → (a ≤ℤ b → c ≤ℤ d) → (c ≤ℤ d → a ≤ℤ b) → leZ a b ≡ leZ c d
-same-order {a} {b} {c} {d} f g = go (leZ a b) (leZ c d) refl refl
-  where
-    go : (s t : Bool) → leZ a b ≡ s → leZ c d ≡ t → s ≡ t
-    go true true p q = refl
-    go false false p q = refl
-    go true false p q = absurd (let h = f (omega ints) in omega ints)
-    go false true p q = absurd (let h = g (omega ints) in omega ints)
-
 -- c is the difference exactly if the sum with c is the second
 same-sum : (a b c : ℤ) → (leZ c (b -ℤ a) && leZ (b -ℤ a) c) ≡ sameZ (c +ℤ a) b
 unfolding sameZ
 same-sum a b c =
     rw (
-      same-order {a = c} {b = b -ℤ a} {c = c +ℤ a} {d = b} (λ h. omega (ints, add-ud c a, sub-ud b a)) (λ h. omega (ints, add-ud c a, sub-ud b a)),
-      same-order {a = b -ℤ a} {b = c} {c = b} {d = c +ℤ a} (λ h. omega (ints, add-ud c a, sub-ud b a)) (λ h. omega (ints, add-ud c a, sub-ud b a)),
+      same-test (leZ c (b -ℤ a)) (leZ (c +ℤ a) b) (omega (ints, add-ud c a, sub-ud b a)),
+      same-test (leZ (b -ℤ a) c) (leZ b (c +ℤ a)) (omega (ints, add-ud c a, sub-ud b a)),
     )
 
 returns : tie.Need-returns
 returns c = let d = c .before .before in let a = d .before .before .before .args in not-times (a .a) (a .b) (a .c .0) (not-true _ (d .if1 .taken))
 
 minus-requires : tie.Need-minus-requires
+unfolding secsOf
 minus-requires c κs =
     let s = c .before .before .before in
     let (p, q) = both-times (s .args .a) (s .args .b) (not-false _ (c .if1 .left)) in
-    difference-fits (rw p at (s .pre .0)) (rw q at (s .pre .1))
+    rw (p, q) at (s .pre)
 
 returns-2 : tie.Need-returns-2
 unfolding after sameTime

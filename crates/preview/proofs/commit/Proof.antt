@@ -8,12 +8,6 @@ use Rattle.judge.proofs.Laws.{accepted, refused-for}
 use Rattle.preview.proofs.commit.Statement.{statement}
 use Rattle.preview.proofs.commit.Tie as tie
 
-change-fault-requires : tie.Need-change-fault-requires
-change-fault-requires c κs = search needs
-
-enum-told : tie.Need-enum-told
-enum-told c = search needs
-
 returns : tie.Need-returns
 unfolding commitFault
 returns c =
@@ -22,21 +16,9 @@ returns c =
     let fault = refused-for _ (d .change-fault .ensures) is in
     rw is (sym (kept _ _ _ _ (simp fault)))
 
-enum-told-2 : tie.Need-enum-told-2
-enum-told-2 c = search needs
-
 -- nothing speaks against the change
 clean : (c : tie.After-enum-told2) → let a = c .before .before .before .args in changeFault (a .case) (a .row) (a .column) ≡ none
 clean c = accepted _ (c .before .before .change-fault .ensures) (c .enum-told2 .given .1)
-
-change-requires : tie.Need-change-requires
-change-requires c κs = clean c
-
-case-fault-requires : tie.Need-case-fault-requires
-case-fault-requires c κs = search needs
-
-enum-told-3 : tie.Need-enum-told-3
-enum-told-3 c = search needs
 
 returns-2 : tie.Need-returns-2
 unfolding commitFault
@@ -45,9 +27,6 @@ returns-2 c =
     let is = c .enum-told3 .given .1 in
     let fault = refused-for _ (d .case-fault .ensures) is in
     rw is (sym (kept _ _ _ _ (simp (clean (d .before .before)) (rw (d .before .change .ensures) at fault))))
-
-enum-told-4 : tie.Need-enum-told-4
-enum-told-4 c = search needs
 
 returns-3 : tie.Need-returns-3
 unfolding commitFault
@@ -62,13 +41,13 @@ pub commit-spec : {M : Type 1} → statement M
 commit-spec =
     tie.close
     (tie.spec
-    change-fault-requires
-    enum-told
+    (λ c κs. search needs)
+    (λ c. search needs)
     returns
-    enum-told-2
-    change-requires
-    case-fault-requires
-    enum-told-3
+    (λ c. search needs)
+    (λ c κs. clean c)
+    (λ c κs. search needs)
+    (λ c. search needs)
     returns-2
-    enum-told-4
+    (λ c. search needs)
     returns-3)

@@ -6,12 +6,6 @@ use Rattle.judge.specs.Judgement.{judgedBy}
 use Rattle.preview.proofs.entry_fault.Statement.{statement}
 use Rattle.preview.proofs.entry_fault.Tie as tie
 
-outside-requires : tie.Need-outside-requires
-outside-requires c κs = search needs
-
-outside-requires-2 : tie.Need-outside-requires-2
-outside-requires-2 c κs = search needs
-
 returns : tie.Need-returns
 unfolding judgedBy
 returns c =
@@ -25,4 +19,4 @@ returns-2 c =
     simp (sym (d .before .outside .ensures) ∙ d .if1 .left, sym (c .before .outside2 .ensures) ∙ c .if2 .left)
 
 pub entry-fault-spec : {M : Type 1} → statement M
-entry-fault-spec = tie.close (tie.spec outside-requires outside-requires-2 returns returns-2)
+entry-fault-spec = tie.close (tie.spec (λ c κs. search needs) (λ c κs. search needs) returns returns-2)

@@ -6,16 +6,17 @@ use mathlib.Core.Path.{_≡_, ap, _∙_}
 use lib.IntN.{pos}
 use lib.ListN.{length-replicate}
 use Rattle.model.specs.Answers.{answerPacked}
-use Rattle.report.specs.Text.{answerText, text}
-use Rattle.report.specs.Puts.{Puts}
-use Rattle.report.proofs.Writing.{puts-then}
+use Rattle.puts.specs.Written.{Puts}
+use Rattle.puts.proofs.Writing.{puts-then}
+use Rattle.report.specs.Lengths.{mostLines}
+use Rattle.report.specs.Text.{answerText, programZones, programSpace, text}
 use Rattle.report.proofs.Few.{few}
 use Rattle.report.proofs.report.Statement.{statement}
 use Rattle.report.proofs.report.Tie as tie
 
 -- the answer, with the length of the workspace as a number
-answer-is : (c : tie.After-verdict-packed) → c .verdict-packed .result ≡ answerPacked (c .before .before .before .args .bytes .now) 128 16384
-answer-is c = c .verdict-packed .ensures .answer ∙ ap (answerPacked _ 128) (length-replicate 16384 (pos 0))
+answer-is : (c : tie.After-verdict-packed) → c .verdict-packed .result ≡ answerPacked (c .before .before .before .args .bytes .now) programZones programSpace
+answer-is c = c .verdict-packed .ensures .answer ∙ ap (answerPacked _ programZones) (length-replicate programSpace (pos 0))
 
 slice-aggregate-verdict-packed : tie.Need-slice-aggregate-verdict-packed
 slice-aggregate-verdict-packed c = search needs
@@ -29,20 +30,20 @@ read-requires c κs = search needs
 put-heading-requires : tie.Need-put-heading-requires
 put-heading-requires c κs = search needs
 
-put-byte-requires : tie.Need-put-byte-requires
-put-byte-requires c κs = search needs
+byte-requires : tie.Need-byte-requires
+byte-requires c κs = search needs
 
 line-count-requires : tie.Need-line-count-requires
-line-count-requires c κs = rw (answer-is (c .before .before .before .before .before .before .before .before)) (few _ 128 16384 .cycles)
+line-count-requires c κs = rw (answer-is (c .before .before .before .before .before .before .before .before)) (few _ programZones programSpace .cycles)
 
-few-lines : (c : tie.After-line-count) → c .line-count .result ≤ 65
+few-lines : (c : tie.After-line-count) → c .line-count .result ≤ mostLines
 few-lines c = omega (arith, line-count-requires (c .before) tt)
 
 put-lines-requires : tie.Need-put-lines-requires
 put-lines-requires c κs =
     let r = c .before .before .before .before .before .before .before .before in
     let s = r .before .before .before .before .before .args .bytes .now in
-    (rw (r .read .ensures) (few s 128 16384 .departures), omega (arith, few-lines (c .before)))
+    (rw (r .read .ensures) (few s programZones programSpace .departures), omega (arith, few-lines (c .before)))
 
 returns : tie.Need-returns
 unfolding text answerText
@@ -53,10 +54,10 @@ returns c =
     let r = h .before .before .before .before in
     let a = r .before .before in
     let start = a .before .before .before in
-    let put = puts-then (puts-then (h .put-heading .ensures .0) (b .put-byte .ensures)) (c .put-lines .ensures .0) in
+    let put = puts-then (puts-then (h .put-heading .ensures .puts) (b .byte .ensures)) (c .put-lines .ensures .puts) in
     let all : Puts (start .args .out .now) 0 (text (start .args .bytes .now)) (c .put-lines .result) (c .put-lines .last .0)
     = rw (l .line-count .ensures, answer-is a, r .read .ensures) at put in
-    (omega arith, omega (arith, few-lines l), all .holds)
+    record { puts = all; within = omega (arith, few-lines l) }
 
 pub report-spec : {M : Type 1} → statement M
 report-spec =
@@ -66,7 +67,7 @@ report-spec =
     verdict-packed-requires
     read-requires
     put-heading-requires
-    put-byte-requires
+    byte-requires
     line-count-requires
     put-lines-requires
     returns)

@@ -1,18 +1,24 @@
--- The latest of the row is the later of the time kept and of the sums not reached yet.
+-- The time kept is the latest of the sums so far.
 use borrow.Author.Needs.{needs}
-use mathlib.Core.Path.{sym, ap, _∙_}
+use mathlib.Core.Path.{_≡_, sym, ap, ap₂, _∙_}
 use Prim.Native.Nat.{ℕ, _+_, _-_, _*_, _≤_}
 use native.Mathlib.Omega.{arith}
 use mathlib.Core.List.{List}
-use Rattle.model.specs.declared.Slot.{Slot}
+use lib.IntN.{ℤ, pos}
+use lib.ListN.{getD}
 use Rattle.ints.specs.declared.Seconds.{Seconds}
-use Rattle.model.specs.Network.{Time, secs, time, after, clocked}
-use Rattle.model.specs.Faults.{timeOf}
+use Rattle.ints.proofs.Integers.{sized-fits}
+use Rattle.model.specs.declared.Slot.{Slot}
+use Rattle.model.specs.Sizes.{mostTimes}
+use Rattle.model.specs.Network.{Time, secs, time, later, after, secsOf, clocked}
+use Rattle.model.specs.Faults.{timeOf, nothing, tableOf}
 use Rattle.model.specs.Answers.{seconds}
 use Rattle.model.proofs.Cycles.{next-is}
-use Rattle.judge.proofs.Laws.{row-fits}
-use Rattle.runs.specs.Steps.{tableOf, timesOf}
-use Rattle.runs.proofs.Laws.{Kept, kept-none, kept-more, kept-all, entry-at, time-at, value-is}
+use Rattle.model.proofs.MaxPlus.{latestOf}
+use Rattle.model.proofs.Places.{row-fits, slot-at}
+use Rattle.model.proofs.Sums.{latestOf-none, latestOf-more, after-small, time-small}
+use Rattle.runs.specs.Steps.{timesOf}
+use Rattle.runs.proofs.Laws.{time-at, value-is}
 use Rattle.runs.proofs.row_largest.Statement.{statement}
 use Rattle.runs.proofs.row_largest.Tie as tie
 
@@ -21,74 +27,56 @@ abbrev sums : ℕ → List Slot → List Seconds → ℕ → ℕ → Time
 sums n table x i j = after (secs (clocked (timesOf n x) j)) (time n (tableOf n table) i j)
 
 abbrev Inv-loop : tie.InvT-loop
-Inv-loop n row table x first kept₀ column₀ kept column = (column ≤ n) × Kept n (sums n table x (row + 1)) column (timeOf kept)
+Inv-loop n row table x first kept₀ column₀ kept column = (column ≤ n) × (timeOf kept ≡ latestOf column (sums n table x (row + 1)))
 
 abbrev μ-loop : tie.MeasureT-loop
 μ-loop n row table x first kept₀ column₀ kept column = n - column
 
 -- the row is within the table
-fits-row : (c : tie.Start Inv-loop μ-loop) → c .args .row * c .args .n + c .args .n ≤ 49
-fits-row c = row-fits (c .pre .0 .table .few-departures) (c .pre .1)
+in-table : (c : tie.Start Inv-loop μ-loop) → c .args .row * c .args .n + c .args .n ≤ mostTimes
+in-table c = row-fits (c .pre .0 .table .departures) (c .pre .1)
 
-mul-first : tie.Need-mul-first Inv-loop μ-loop
-mul-first c = omega (arith, fits-row c)
-
-loop-holds : tie.Need-loop-holds Inv-loop μ-loop
-unfolding timeOf
-loop-holds c = let a = c .args in (omega arith, kept-none (a .n) (sums (a .n) (a .t1) (a .t2) (a .row + 1)))
-
-add-slot : tie.Need-add-slot Inv-loop μ-loop
-add-slot c = omega (arith, fits-row (c .before .before))
-
-mul-slot : tie.Need-mul-slot Inv-loop μ-loop
-mul-slot c = omega (arith, fits-row (c .before .before))
-
-array-copy-out-slot : tie.Need-array-copy-out-slot Inv-loop μ-loop
-array-copy-out-slot c = omega (arith, fits-row (c .before .before))
-
-mul-time : tie.Need-mul-time Inv-loop μ-loop
-mul-time c = omega (arith, c .before .before .before .pre .0 .table .few-departures)
-
-array-copy-out-time : tie.Need-array-copy-out-time Inv-loop μ-loop
-array-copy-out-time c = omega (arith, c .before .before .before .pre .0 .table .few-departures)
-
-later-requires : tie.Need-later-requires Inv-loop μ-loop
-later-requires c κs =
+-- the sum that is looked at, of the time and the entry that are read
+looked : (c : tie.After-time Inv-loop μ-loop) →
+    let u = c .before .before in
+    let a = u .before .before .args in
+    let j = u .before .loop .column in
+    let x = getD (a .t2) j (seconds (pos 0)) in
+    sums (a .n) (a .t1) (a .t2) (a .row + 1) (j + 1) ≡ after (secs (x .0)) (timeOf (getD (a .t1) (a .row * a .n + j) nothing))
+looked c =
     let u = c .before .before in
     let s = u .before .before in
     let a = s .args in
     let j = u .before .loop .column in
-    record {
-      time-small = rw (time-at (a .n) j (a .t2) (u .loop-test .taken)) at (s .pre .0 .times-small (j + 1));
-      entry-small = rw (entry-at (a .n) (a .row) j (a .t1) (s .pre .1) (u .loop-test .taken)) at (s .pre .0 .table .times-small (a .row + 1) (j + 1));
-    }
+    let t = u .loop-test .taken in
+    ap₂ (λ (x : ℤ). after (secs x)) (time-at (a .n) j (a .t2) t) (slot-at (a .n) (a .t1) (a .row) j (s .pre .1) t)
 
-add-column : tie.Need-add-column Inv-loop μ-loop
-add-column c = omega arith
-
-loop-less : tie.Need-loop-less Inv-loop μ-loop
-loop-less c = search needs
-
-loop-again : tie.Need-loop-again Inv-loop μ-loop
-loop-again c =
-    let u = c .before .before .before in
+later-sum-requires : tie.Need-later-sum-requires Inv-loop μ-loop
+unfolding timeOf secsOf
+later-sum-requires c κs =
+    let u = c .before .before in
     let s = u .before .before in
     let a = s .args in
-    let l = u .before .loop in
-    let j = l .column in
-    let t = u .loop-test .taken in
-    let more = kept-more (a .n) (sums (a .n) (a .t1) (a .t2) (a .row + 1)) j (timeOf (l .kept)) (l .inv .1) t in
-    (omega arith, simp (c .later .ensures, ← (time-at (a .n) j (a .t2) t), ← (entry-at (a .n) (a .row) j (a .t1) (s .pre .1) t)) more)
+    let j = u .before .loop .column + 1 in
+    let entry = time (a .n) (tableOf (a .n) (a .t1)) (a .row + 1) j in
+    let small = time-small (a .n) _ (s .pre .0 .table .times-small) (a .row + 1) j in
+    let sum = after-small (secs (clocked (timesOf (a .n) (a .t2)) j)) entry (s .pre .0 .times-small j) small in
+    sized-fits _ (omega (arith, rw (looked c) at sum))
+
+loop-again : tie.Need-loop-again Inv-loop μ-loop
+unfolding timeOf
+loop-again c =
+    let l = c .before .before .before .before .loop in
+    (omega arith, c .later-sum .ensures ∙ ap₂ later (l .inv .1) (sym (looked (c .before))) ∙ sym (latestOf-more (l .column) _))
 
 returns : tie.Need-returns Inv-loop μ-loop
 returns c =
     let l = c .before .before .loop in
     let s = c .before .before .before in
     let a = s .args in
-    let i = a .row + 1 in
-    let all = kept-all (a .n) (sums (a .n) (a .t1) (a .t2) i) (l .column) (timeOf (l .kept)) (l .inv .1) (c .before .loop-test .left) in
-    let is = next-is (a .n) _ (s .pre .0 .table .regular) (clocked (timesOf (a .n) (a .t2))) i (omega arith) (omega arith) in
-    ap seconds (value-is (l .kept) _ (sym all ∙ is))
+    let e : l .column ≡ a .n = omega arith in
+    let is = next-is (a .n) _ (s .pre .0 .table .regular) (clocked (timesOf (a .n) (a .t2))) (a .row + 1) (omega arith) (omega arith) in
+    ap seconds (value-is (l .kept) _ ((rw e at (l .inv .1)) ∙ is))
 
 pub row-largest-spec : {M : Type 1} → statement M
 row-largest-spec =
@@ -96,15 +84,16 @@ row-largest-spec =
     (tie.spec
     Inv-loop
     μ-loop
-    mul-first
-    loop-holds
-    add-slot
-    mul-slot
-    array-copy-out-slot
-    mul-time
-    array-copy-out-time
-    later-requires
-    add-column
-    loop-less
+    (λ c. omega (arith, in-table c))
+    (λ c. (omega arith, latestOf-none _))
+    -- the entry and the time
+    (λ c. omega (arith, in-table (c .before .before)))
+    (λ c. omega (arith, in-table (c .before .before)))
+    (λ c. omega (arith, in-table (c .before .before)))
+    (λ c. omega arith)
+    (λ c. omega arith)
+    later-sum-requires
+    (λ c. omega arith)
+    (λ c. search needs)
     loop-again
     returns)

@@ -1,13 +1,13 @@
 -- The list is made, then looked through.
 use borrow.Author.Needs.{needs}
-use Rattle.lists.proofs.Selecting.{held-full, held-open, held-list}
+use Rattle.lists.proofs.Held.{held-full, held-open, held-list}
 use Rattle.search.specs.Searching.{full, met, on}
-use Rattle.search.proofs.Looked.{sources, meeting, found-some, found-none}
+use Rattle.search.proofs.Looked.{meeting, found-some, found-none}
 use Rattle.search.proofs.one_cycle.Statement.{statement}
 use Rattle.search.proofs.one_cycle.Tie as tie
 
 next-list-requires : tie.Need-next-list-requires
-next-list-requires c κs = let p = c .before .before .pre in (p .0 .halves, p .0 .inside, sources (p .0), p .1)
+next-list-requires c κs = c .before .before .pre .building
 
 plain-requires : tie.Need-plain-requires
 plain-requires c κs = search needs
@@ -29,7 +29,8 @@ returns c =
 first-common-requires : tie.Need-first-common-requires
 first-common-requires c κs =
     let l = c .before .before .before .before in
-    meeting (l .before .before .before .pre .0) (l .next-list .result) (l .next-list .last .0) (l .next-list .kept .0) (c .before .if1 .left) (l .next-list .ensures .list)
+    let made = l .next-list in
+    meeting (made .result) (made .last .0) (l .before .before .before .pre) (made .kept .0) (c .before .if1 .left) (made .ensures .list)
 
 settled-requires-2 : tie.Need-settled-requires-2
 settled-requires-2 c κs = search needs

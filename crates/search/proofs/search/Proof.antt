@@ -2,57 +2,61 @@
 use borrow.Author.Needs.{needs}
 use native.Mathlib.Omega.{arith}
 use native.Mathlib.Numerals.{add-one}
-use Prim.Native.Nat.{_+_, _*_, _-_}
+use Prim.Native.Nat.{_*_, _-_}
 use mathlib.Core.Path.{_≡_, refl, sym, ap, _∙_}
 use lib.IntN.{pos}
 use lib.ListN.{length, length-replicate}
+use Rattle.model.specs.Sizes.{zoneSize}
 use Rattle.model.specs.Search.{lists}
-use Rattle.lists.proofs.Columns.{few-bounds}
-use Rattle.search.specs.Searching.{Searchable}
 use Rattle.model.specs.Answers.{answered}
-use Rattle.search.proofs.Searching.{Reached, same-room, target-meets, zone-room, half-small, begun, source-in, past, stepping, ended, onward}
+use Rattle.lists.specs.Lists.{seenSize}
+use Rattle.search.specs.Searching.{Searchable}
+use Rattle.search.proofs.Searching.{Reached, target-meets, zone-room, begun, source-in, past, stepping, ended, onward}
 use Rattle.search.proofs.search.Statement.{statement}
 use Rattle.search.proofs.search.Tie as tie
 
 abbrev Inv-loop : tie.InvT-loop
 Inv-loop work₀ capacity times start target n end last half count₀ seen₀ source₀ k₀ work count seen source k =
-    (q : Searchable n capacity last work₀ times start target) × Reached q work count source k × (half ≡ capacity * ((n + 1) * (n + 1))) × (length seen ≡ 65536)
+    (q : Searchable n capacity last (length work₀) times start target)
+    × Reached q work count source k × (half ≡ capacity * zoneSize n) × (length seen ≡ seenSize)
 
 abbrev μ-loop : tie.MeasureT-loop
 μ-loop work₀ capacity times start target n end last half count₀ seen₀ source₀ k₀ work count seen source k = last - k
 
-add-half : tie.Need-add-half Inv-loop μ-loop
-add-half c = search needs
-
-add-half-2 : tie.Need-add-half-2 Inv-loop μ-loop
-add-half-2 c = search needs
+zone-size-requires : tie.Need-zone-size-requires Inv-loop μ-loop
+zone-size-requires c κs = c .pre .table .departures .few
 
 mul-half : tie.Need-mul-half Inv-loop μ-loop
-mul-half c = omega (arith, few-bounds (c .pre .few))
-
-mul-half-2 : tie.Need-mul-half-2 Inv-loop μ-loop
-mul-half-2 c = omega (arith, half-small (c .pre))
+mul-half c = rw (c .zone-size .ensures) (omega (arith, c .before .pre .long, c .before .good .0))
 
 first-list-requires : tie.Need-first-list-requires Inv-loop μ-loop
-first-list-requires c κs = let q = c .before .pre in (target-meets q, zone-room q)
+first-list-requires c κs = let q = c .before .before .pre in (target-meets q, zone-room q)
 
 loop-holds : tie.Need-loop-holds Inv-loop μ-loop
 unfolding lists
 loop-holds c =
-    let q = same-room (c .before .before .before .pre) (c .before .first-list .kept .0) in
-    (q, begun q (c .before .first-list .ensures .0) (c .before .first-list .ensures .1), refl, length-replicate 65536 (pos 0))
+    let f = c .before in
+    let z = f .before .before in
+    let q = rw (← (f .first-list .kept .0)) at (z .before .pre) in (
+      q,
+      begun q refl (f .first-list .ensures .list) (f .first-list .ensures .few),
+      ap (_*_ (z .before .args .capacity)) (z .zone-size .ensures),
+      length-replicate seenSize (pos 0),
+    )
 
 sub-goal : tie.Need-sub-goal Inv-loop μ-loop
-sub-goal c = let i = c .before .loop .inv in source-in (i .0) (i .1)
+sub-goal c = let i = c .before .loop .inv in omega (arith, source-in (i .0) (i .1), i .2)
 
 add-k : tie.Need-add-k Inv-loop μ-loop
-add-k c = let q = c .before .loop .inv .0 in omega (arith, q .few-cycles, c .loop-test .taken)
+add-k c = let q = c .before .loop .inv .0 in omega (arith, q .limits .few-cycles, q .within, c .loop-test .taken)
 
 slice-aggregate-one-cycle : tie.Need-slice-aggregate-one-cycle Inv-loop μ-loop
 slice-aggregate-one-cycle c = sym (c .before .before .before .loop .inv .3)
 
 one-cycle-requires : tie.Need-one-cycle-requires Inv-loop μ-loop
-one-cycle-requires c κs = let i = c .before .before .before .loop .inv in (stepping (i .0) (i .1) (c .before .before .loop-test .taken), i .3)
+one-cycle-requires c κs =
+    let i = c .before .before .before .loop .inv in
+    rw (i .2) (stepping (i .0) (i .1) (c .before .before .loop-test .taken) (i .3))
 
 same-length : tie.Need-same-length Inv-loop μ-loop
 same-length c =
@@ -64,7 +68,9 @@ returns : tie.Need-returns Inv-loop μ-loop
 returns c =
     let o = c .before .before .before .before in
     let l = o .before .before .before .before in
-    ended (l .loop .inv .0) (l .loop .inv .1) (o .before .before .before .loop-test .taken) (rw (add-one (l .loop .k)) at (o .one-cycle .ensures)) _ (c .before .if1 .taken)
+    let i = l .loop .inv in
+    let said = rw (add-one (l .loop .k), i .2) at (o .one-cycle .ensures) in
+    ended (i .0) (i .1) (o .before .before .before .loop-test .taken) said _ (c .before .if1 .taken)
 
 loop-less : tie.Need-loop-less Inv-loop μ-loop
 loop-less c = let i = c .before .before .before .before .before .before .loop-test .taken in omega arith
@@ -73,8 +79,10 @@ loop-again : tie.Need-loop-again Inv-loop μ-loop
 loop-again c =
     let o = c .before .before .before in
     let l = o .before .before .before .before in
-    let r = onward (l .loop .inv .0) (l .loop .inv .1) (o .before .before .before .loop-test .taken) (rw (add-one (l .loop .k)) at (o .one-cycle .ensures)) (c .if1 .left) (o .one-cycle .kept .0) in
-    (l .loop .inv .0, rw (add-one (l .loop .k)) r, refl, o .one-cycle .kept .1 .1 .1 .1 .1 .1 .1 .0 ∙ l .loop .inv .3)
+    let i = l .loop .inv in
+    let said = rw (add-one (l .loop .k), i .2) at (o .one-cycle .ensures) in
+    let r = onward (i .0) (i .1) (o .before .before .before .loop-test .taken) said (c .if1 .left) (o .one-cycle .kept .0) in
+    (i .0, rw (add-one (l .loop .k), i .2) r, i .2, o .one-cycle .kept .1 .1 .1 .1 .1 .1 .1 .0 ∙ i .3)
 
 past-requires : tie.Need-past-requires Inv-loop μ-loop
 past-requires c κs = search needs
@@ -93,10 +101,8 @@ search-spec =
     (tie.spec
     Inv-loop
     μ-loop
-    add-half
-    add-half-2
+    zone-size-requires
     mul-half
-    mul-half-2
     first-list-requires
     loop-holds
     sub-goal

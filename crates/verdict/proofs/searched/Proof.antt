@@ -1,140 +1,140 @@
 -- The case is put in memory and searched; then every number of the workspace is set to 0.
 use borrow.Author.Needs.{needs}
 use native.Mathlib.Omega.{arith}
-use mathlib.Core.Path.{_≡_, refl, sym, ap, _∙_}
-use Prim.Native.Nat.{ℕ, _+_, _*_, _≤_}
+use mathlib.Core.Path.{sym, ap, _∙_}
+use Prim.Native.Nat.{ℕ}
 use lib.IntN.{pos}
-use lib.ListN.{length, take, replicate}
+use lib.ListN.{length, replicate}
 use lib.Seq.{length-take-le}
 use Rattle.model.specs.Faults.{network}
 use Rattle.model.specs.Search.{plan}
+use Rattle.model.specs.Conditions.{Departures}
 use Rattle.model.proofs.Limits.{limits-of}
+use Rattle.model.proofs.Places.{table-fits, pattern-fits}
 use Rattle.powers.proofs.Places.{of-case}
-use Rattle.encoded.proofs.Memory.{few-times, few-bounds}
 use Rattle.verdict.specs.Planning.{Planned}
-use Rattle.verdict.proofs.Within.{Encoded, few, times-in-limit, start-in-limit, target-in-limit, powers-ready, counted, searchable, planned, found, plan-within}
+use Rattle.verdict.proofs.Within.{CaseIn, table-room, pattern-room, in-pattern, departures, times-in-limit, start-in-limit, target-in-limit}
+use Rattle.verdict.proofs.Within.{powers-ready, counted, searchable, planned, found, plan-within}
 use Rattle.verdict.proofs.searched.Statement.{statement}
 use Rattle.verdict.proofs.searched.Tie as tie
 
--- at most seven departures
-seven : (c : tie.Start) → c .args .case .n ≤ 7
-seven c = few (c .args .case) (c .args .capacity) (length (c .args .work .now)) (c .pre)
+few : (c : tie.Start) → Departures (c .args .case .n)
+few c = departures (c .args .case) (c .args .capacity) (length (c .args .work .now)) (c .pre)
+
+table-size-requires : tie.Need-table-size-requires
+table-size-requires c κs = few c .few
+
+pattern-size-requires : tie.Need-pattern-size-requires
+pattern-size-requires c κs = few (c .before) .few
+
+numbers-in-requires : tie.Need-numbers-in-requires
+numbers-in-requires c κs =
+    let t = c .before .before .before .before in
+    let a = t .before in
+    rw (t .table-size .ensures) (omega (arith, table-fits (few a)), times-in-limit (a .args .case) (a .args .capacity) _ (a .pre))
+
+numbers-in-requires-2 : tie.Need-numbers-in-requires-2
+numbers-in-requires-2 c κs =
+    let p = c .before .before .before .before in
+    let a = p .before .before in
+    rw (p .pattern-size .ensures) (pattern-fits (few a), start-in-limit (a .args .case) (a .args .capacity) _ (a .pre))
+
+numbers-in-requires-3 : tie.Need-numbers-in-requires-3
+numbers-in-requires-3 c κs =
+    let p = c .before .before .before .before .before in
+    let a = p .before .before in
+    rw (p .pattern-size .ensures) (pattern-fits (few a), target-in-limit (a .args .case) (a .args .capacity) _ (a .pre))
 
 -- the case in memory
-in-memory : (c : tie.After-bounds-in2) →
-    let b = c .before .before in
-    let t = b .before .before in
-    Encoded (t .before .before .args .case) (t .times-in .result) (b .bounds-in .result) (c .bounds-in2 .result)
-unfolding network
+in-memory : (c : tie.After-numbers-in3) →
+    let b = c .before in
+    let t = b .before in
+    CaseIn (t .before .before .before .before .before .before .args .case) (t .numbers-in .result) (b .numbers-in2 .result) (c .numbers-in3 .result)
 in-memory c =
-    let b = c .before .before in
-    let t = b .before .before in
+    let b = c .before in
+    let t = b .before in
+    let p = t .before .before .before .before in
     record {
-      times-are = t .times-in .ensures .0;
-      start-is = b .bounds-in .ensures .0;
-      target-is = c .bounds-in2 .ensures .0;
-      times-size = t .times-in .ensures .1;
-      start-size = b .bounds-in .ensures .1;
-      target-size = c .bounds-in2 .ensures .1;
+      times-in = rw (p .before .table-size .ensures) at (t .numbers-in .ensures);
+      start-in = rw (p .pattern-size .ensures) at (b .numbers-in2 .ensures);
+      target-in = rw (p .pattern-size .ensures) at (c .numbers-in3 .ensures);
     }
 
-abbrev start-of : tie.After-bounds-in2 → tie.Start
-start-of c = c .before .before .before .before .before .before
-
 -- the parts of the arrays that are lent
-start-room : (c : tie.After-bounds-in2) → let n = start-of c .args .case .n in n * (n + 1) ≤ length (c .before .before .bounds-in .result)
-start-room c = omega (arith, few-bounds (seven (start-of c)), c .before .before .bounds-in .ensures .1)
+array-share-prefix-times : tie.Need-array-share-prefix-times
+array-share-prefix-times c =
+    let t = c .before .before in
+    let z = t .before .before .before .before .before in
+    table-room (few (z .before)) (t .numbers-in .result) (t .numbers-in .ensures .size) (z .table-size .ensures)
 
-target-room : (c : tie.After-bounds-in2) → let n = start-of c .args .case .n in n * (n + 1) ≤ length (c .bounds-in2 .result)
-target-room c = omega (arith, few-bounds (seven (start-of c)), c .bounds-in2 .ensures .1)
-
-start-fits : (c : tie.After-bounds-in2) → let n = start-of c .args .case .n in length (take (n * (n + 1)) (c .before .before .bounds-in .result)) ≡ n * (n + 1)
-start-fits c = length-take-le _ (c .before .before .bounds-in .result) (start-room c)
-
-target-fits : (c : tie.After-bounds-in2) → let n = start-of c .args .case .n in length (take (n * (n + 1)) (c .bounds-in2 .result)) ≡ n * (n + 1)
-target-fits c = length-take-le _ (c .bounds-in2 .result) (target-room c)
-
-times-room : (c : tie.After-times-in) → let n = c .before .before .args .case .n in n * n ≤ length (c .times-in .result)
-times-room c = omega (arith, few-times (seven (c .before .before)), c .times-in .ensures .1)
-
--- the searched horizon
-plan-made : (c : tie.After-plan-of) → let a = start-of (c .before .before .before .before .before) in Planned (plan (network (a .args .case))) (c .plan-of .result)
-plan-made c =
-    let f = c .before in
-    let d = f .before in
-    let b = d .before .before .before in
-    let a = start-of b in
-    planned (a .args .case) (a .args .capacity) _ (a .pre) (in-memory b) (f .first-repeat .result) (d .differences .result) (f .first-repeat .ensures) (d .differences .ensures) (c .plan-of .ensures)
-
-times-in-requires : tie.Need-times-in-requires
-times-in-requires c κs = let a = c .before in (seven a, times-in-limit (a .args .case) (a .args .capacity) _ (a .pre))
-
-bounds-in-requires : tie.Need-bounds-in-requires
-bounds-in-requires c κs = let a = c .before .before .before in (seven a, start-in-limit (a .args .case) (a .args .capacity) _ (a .pre))
-
-bounds-in-requires-2 : tie.Need-bounds-in-requires-2
-bounds-in-requires-2 c κs = let a = c .before .before .before .before .before in (seven a, target-in-limit (a .args .case) (a .args .capacity) _ (a .pre))
-
-mul-count : tie.Need-mul-count
-mul-count c = omega (arith, few-times (seven (start-of c)))
-
-add-size : tie.Need-add-size
-add-size c = omega (arith, seven (start-of c))
-
-mul-size : tie.Need-mul-size
-mul-size c = omega (arith, few-bounds (seven (start-of c)))
+slice-aggregate-times : tie.Need-slice-aggregate-times
+slice-aggregate-times c = sym (length-take-le _ _ (array-share-prefix-times (c .before)))
 
 array-share-prefix-start : tie.Need-array-share-prefix-start
-array-share-prefix-start c = start-room c
+array-share-prefix-start c =
+    let b = c .before .before in
+    let p = b .before .before .before .before .before in
+    pattern-room (few (p .before .before)) (b .numbers-in2 .result) (b .numbers-in2 .ensures .size) (p .pattern-size .ensures)
 
-slice-aggregate-differences : tie.Need-slice-aggregate-differences
-slice-aggregate-differences c = sym (start-fits (c .before))
+slice-aggregate-start : tie.Need-slice-aggregate-start
+slice-aggregate-start c = sym (length-take-le _ _ (array-share-prefix-start (c .before)))
 
 array-share-prefix-target : tie.Need-array-share-prefix-target
-array-share-prefix-target c = target-room (c .before)
+array-share-prefix-target c =
+    let m = c .before .before in
+    let p = m .before .before .before .before .before .before in
+    pattern-room (few (p .before .before)) (m .numbers-in3 .result) (m .numbers-in3 .ensures .size) (p .pattern-size .ensures)
 
-slice-aggregate-differences-2 : tie.Need-slice-aggregate-differences-2
-slice-aggregate-differences-2 c = sym (target-fits (c .before .before))
+slice-aggregate-target : tie.Need-slice-aggregate-target
+slice-aggregate-target c = sym (length-take-le _ _ (array-share-prefix-target (c .before)))
 
 differences-requires : tie.Need-differences-requires
-differences-requires c κs = let b = c .before .before in (seven (start-of b), start-fits b, target-fits b)
+differences-requires c κs =
+    let m = c .before .before .before in
+    let b = m .before in
+    let p = b .before .before .before .before .before in
+    let d = few (p .before .before) in (
+      in-pattern d (b .numbers-in2 .result) (b .numbers-in2 .ensures .size) (p .pattern-size .ensures),
+      in-pattern d (m .numbers-in3 .result) (m .numbers-in3 .ensures .size) (p .pattern-size .ensures),
+    )
 
 first-repeat-requires : tie.Need-first-repeat-requires
-first-repeat-requires c κs = let a = start-of (c .before .before .before) in powers-ready (a .args .case) (a .args .capacity) _ (a .pre)
+first-repeat-requires c κs =
+    let a = c .before .before .before .before .before .before .before .before .before .before .before .before in
+    powers-ready (a .args .case) (a .args .capacity) _ (a .pre)
 
 plan-of-requires : tie.Need-plan-of-requires
 unfolding network
 plan-of-requires c κs =
-    let a = start-of (c .before .before .before .before) in
-    let w = a .args .case in
-    (λ again e. counted w (a .args .capacity) _ (a .pre) again (sym (c .first-repeat .ensures ∙ of-case w) ∙ e), limits-of w (a .args .capacity) _ (a .pre) .few-cycles)
+    let a = c .before .before .before .before .before .before .before .before .before .before .before .before .before in
+    let w = a .args .case in (
+      λ again e. counted w (a .args .capacity) _ (a .pre) again (sym (c .first-repeat .ensures ∙ of-case w) ∙ e),
+      limits-of w (a .args .capacity) _ (a .pre) .few-cycles,
+    )
 
-array-share-prefix-times : tie.Need-array-share-prefix-times
-array-share-prefix-times c = times-room (c .before .before .before .before .before .before .before .before .before .before .before)
-
-slice-aggregate-search : tie.Need-slice-aggregate-search
-slice-aggregate-search c = let t = c .before .before .before .before .before .before .before .before .before .before .before .before in sym (length-take-le _ (t .times-in .result) (times-room t))
-
-array-share-prefix-start-2 : tie.Need-array-share-prefix-start-2
-array-share-prefix-start-2 c = start-room (c .before .before .before .before .before .before .before .before)
-
-slice-aggregate-search-2 : tie.Need-slice-aggregate-search-2
-slice-aggregate-search-2 c = sym (start-fits (c .before .before .before .before .before .before .before .before .before))
-
-array-share-prefix-target-2 : tie.Need-array-share-prefix-target-2
-array-share-prefix-target-2 c = target-room (c .before .before .before .before .before .before .before .before .before)
-
-slice-aggregate-search-3 : tie.Need-slice-aggregate-search-3
-slice-aggregate-search-3 c = sym (target-fits (c .before .before .before .before .before .before .before .before .before .before))
+-- the searched horizon
+plan-made : (c : tie.After-plan-of) →
+    let m = c .before .before .before .before .before .before in
+    Planned (plan (network (m .before .before .before .before .before .before .before .before .args .case))) (c .plan-of .result)
+plan-made c =
+    let f = c .before in
+    let d = f .before in
+    let m = d .before .before .before .before in
+    let p = m .before .before .before .before .before .before in
+    let a = p .before .before in
+    let free = rw (p .pattern-size .ensures) at (d .differences .ensures) in
+    planned (a .args .case) (a .args .capacity) _ (a .pre) (in-memory m) (f .first-repeat .result) _ (f .first-repeat .ensures) free (c .plan-of .ensures)
 
 search-requires : tie.Need-search-requires
 unfolding network
 search-requires c κs =
-    let p = c .before .before .before .before .before in
-    let b = p .before .before .before .before .before in
-    let a = start-of b in
+    let q = c .before .before in
+    let m = q .before .before .before .before .before .before in
+    let p = m .before .before .before .before .before .before in
+    let a = p .before .before in
     let w = a .args .case in
-    searchable w (a .args .capacity) _ (a .pre) (in-memory b) _ refl (p .plan-of .result .cycles .0) (omega (arith, plan-made p .cycles, plan-within (network w)))
+    rw (p .before .table-size .ensures, p .pattern-size .ensures)
+    (searchable w (a .args .capacity) _ (a .pre) (in-memory m) (omega (arith, plan-made q .cycles, plan-within (network w))))
 
 clear-requires : tie.Need-clear-requires
 clear-requires c κs = search needs
@@ -146,10 +146,12 @@ returns : tie.Need-returns
 returns c =
     let l = c .before in
     let s = l .before .before .before in
-    let p = s .before .before .before .before .before .before in
-    let b = p .before .before .before .before .before in
-    let a = start-of b in (
-      found (a .args .case) (a .args .capacity) _ (a .pre) (in-memory b) (plan-made p) (s .search .ensures),
+    let q = s .before .before .before in
+    let m = q .before .before .before .before .before .before in
+    let p = m .before .before .before .before .before .before in
+    let a = p .before .before in (
+      found (a .args .case) (a .args .capacity) _ (a .pre) (in-memory m) (plan-made q)
+          (rw (p .before .table-size .ensures, p .pattern-size .ensures) at (s .search .ensures)),
       l .clear .ensures ∙ ap (λ (n : ℕ). replicate n (pos 0)) (s .search .kept .0),
     )
 
@@ -157,25 +159,20 @@ pub searched-spec : {M : Type 1} → statement M
 searched-spec =
     tie.close
     (tie.spec
-    times-in-requires
-    bounds-in-requires
-    bounds-in-requires-2
-    mul-count
-    add-size
-    mul-size
+    table-size-requires
+    pattern-size-requires
+    numbers-in-requires
+    numbers-in-requires-2
+    numbers-in-requires-3
+    array-share-prefix-times
+    slice-aggregate-times
     array-share-prefix-start
-    slice-aggregate-differences
+    slice-aggregate-start
     array-share-prefix-target
-    slice-aggregate-differences-2
+    slice-aggregate-target
     differences-requires
     first-repeat-requires
     plan-of-requires
-    array-share-prefix-times
-    slice-aggregate-search
-    array-share-prefix-start-2
-    slice-aggregate-search-2
-    array-share-prefix-target-2
-    slice-aggregate-search-3
     search-requires
     clear-requires
     same-length

@@ -1,22 +1,41 @@
 -- First that the column attains the largest sum, then that the image keeps to the zone.
 use borrow.Author.Needs.{needs}
+use Prim.Native.Nat.{ℕ}
 use mathlib.Core.Path.{refl}
-use Prim.Native.Nat.{suc}
-use mathlib.Core.List.{foldl}
-use mathlib.Core.Option.{some}
-use Rattle.model.specs.Matrix.{constrain}
-use Rattle.model.specs.Search.{rowConstraints}
-use Rattle.zones.specs.Memory.{boundsIn, timesIn}
-use Rattle.zones.specs.Inner.{images}
-use Rattle.zones.proofs.Constraints.{row-adds, row-taking, row-parts}
-use Rattle.zones.proofs.Toward.{Toward, toward-start, first-of, given-up, onward, at-last}
+use mathlib.Core.List.{List}
+use lib.IntN.{ℤ}
+use Rattle.model.specs.Matrix.{Constraint}
+use Rattle.model.specs.Search.{attains, rowConstraints}
+use Rattle.model.proofs.Selections.{chosen-at}
+use Rattle.model.proofs.Rows.{of-row}
+use Rattle.model.proofs.Preimage.{row-fits}
+use Rattle.memory.specs.Numbers.{boundsIn, timesIn}
+use Rattle.zones.specs.Conditions.{RowReady}
+use Rattle.zones.specs.Inner.{Adds, images}
+use Rattle.zones.proofs.Toward.{Toward, Parts, toward-start, first-of, given-up, onward, at-last}
 use Rattle.zones.proofs.add_row.Statement.{statement}
 use Rattle.zones.proofs.add_row.Tie as tie
 
+module _ {n : ℕ} {part times zone : List ℤ} {cols : List ℕ} {i s : ℕ} (r : RowReady n part times zone cols i s) where
+  abbrev row : List Constraint
+  row = rowConstraints n (timesIn times) (boundsIn zone) cols i s
+
+  adds : Adds n times i s
+  adds = record { table = r .table; row = r .to-n; column = chosen-at (r .from-one) (r .column) }
+
+  whole : Toward n part row part row
+  whole = toward-start (record {
+    set = r .set;
+    fits = of-row _ n (timesIn times) (boundsIn zone) cols i s (row-fits n (timesIn times) (boundsIn zone) (r .columns) (adds .column));
+    fitting = r .fitting;
+  }) refl
+
+  two : Parts row (attains n (timesIn times) i s) (images n (timesIn times) (boundsIn zone) cols i s)
+  unfolding rowConstraints
+  two = record { is = refl }
+
 attain-requires : tie.Need-attain-requires
-attain-requires c κs =
-    let s = c .before .before in
-    record { taking = first-of (row-parts _ _ _ _ _ _) (toward-start (row-taking (s .pre)) refl); adds = row-adds (s .pre); from-one = s .pre .from-one }
+attain-requires c κs = let r = c .before .before .pre in record { taking = first-of (two r) (whole r); adds = adds r; from-one = r .from-one }
 
 same-length : tie.Need-same-length
 same-length c = search needs
@@ -24,23 +43,25 @@ same-length c = search needs
 returns : tie.Need-returns
 returns c =
     let k = c .before .before in
-    given-up (row-parts _ _ _ _ _ _) (toward-start (row-taking (k .before .before .before .pre)) refl) (k .attain .ensures) (c .if1 .taken)
+    let r = k .before .before .before .pre in
+    given-up (two r) (whole r) (k .attain .ensures) (c .if1 .taken)
 
 attained : (e : tie.Else1) →
     let s = e .before .before .before .before .before .args in
     let a = timesIn (s .times .now) in
     let d = boundsIn (s .zone .now) in
-    Toward (foldl (constrain (suc (s .n))) (some (boundsIn (s .part .now))) (rowConstraints (s .n) a d (s .cols .now) (s .i) (s .s))) (s .n) (e .before .before .attain .last .0)
+    Toward (s .n) (s .part .now) (rowConstraints (s .n) a d (s .cols .now) (s .i) (s .s)) (e .before .before .attain .last .0)
     (images (s .n) a d (s .cols .now) (s .i) (s .s))
 attained e =
     let k = e .before .before in
-    onward (row-parts _ _ _ _ _ _) (toward-start (row-taking (k .before .before .before .pre)) refl) (k .attain .ensures) (e .if1 .left)
+    let r = k .before .before .before .pre in
+    onward (two r) (whole r) (k .attain .ensures) (e .if1 .left)
 
 keep-images-requires : tie.Need-keep-images-requires
 keep-images-requires c κs =
     let e = c .before in
     let p = e .before .before .before .before .before .pre in
-    record { taking = attained e .taking; size = p .zone-size; adds = row-adds p; cols-size = p .cols-size; columns = p .columns }
+    record { taking = attained e .taking; source = p .source; adds = adds p; cols-size = p .cols-size; columns = p .columns }
 
 same-length-2 : tie.Need-same-length-2
 same-length-2 c = search needs

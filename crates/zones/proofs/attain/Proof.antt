@@ -1,26 +1,24 @@
 -- Column by column.
 use Prim.Native.Nat.{suc, _+_, _-_, _≤_}
 use native.Mathlib.Omega.{arith}
-use mathlib.Core.Path.{_≡_, refl, ap₂}
-use mathlib.Core.List.{[], _∷_, foldl}
-use mathlib.Core.Option.{some}
+use mathlib.Core.Path.{_≡_, refl, ap₂, _∙_}
+use mathlib.Core.List.{[], _∷_}
 use lib.ListN.{length}
-use Rattle.model.specs.Matrix.{constrain}
 use Rattle.model.specs.Network.{time}
 use Rattle.model.specs.Search.{chosen, slack, attains}
+use Rattle.model.specs.Conditions.{Small}
 use Rattle.model.proofs.Rows.{behind}
 use Rattle.model.proofs.Size.{small-mono}
-use Rattle.zones.specs.Memory.{boundsIn, timesIn}
-use Rattle.zones.specs.Inner.{timeOf}
-use Rattle.zones.proofs.ReadyZones.{limit-small}
-use Rattle.zones.proofs.Toward.{Toward, head, Parts, toward-start, first-of, given-up, onward, arrived, from, from-first, from-end, next-one}
+use Rattle.model.proofs.Tabulated.{from, from-first, from-end}
+use Rattle.memory.specs.Numbers.{timesIn, asBound, asTime, InMemory}
+use Rattle.zones.proofs.Columns.{slack-small}
+use Rattle.zones.proofs.Toward.{Toward, Parts, toward-start, first-of, given-up, onward, arrived, next-one}
 use Rattle.zones.proofs.attain.Statement.{statement}
 use Rattle.zones.proofs.attain.Tie as tie
 
 abbrev Inv-loop : tie.InvT-loop
 Inv-loop part₀ times n i s c j₀ part j =
-    Toward (foldl (constrain (suc n)) (some (boundsIn part₀)) (attains n (timesIn times) i s)) n part (from (behind n (timesIn times) i s) (suc n) j)
-    × (1 ≤ j) × (j ≤ suc n) × (length part ≡ length part₀)
+    Toward n part₀ (attains n (timesIn times) i s) part (from (behind n (timesIn times) i s) (suc n) j) × (1 ≤ j) × (j ≤ suc n) × (length part ≡ length part₀)
 
 abbrev μ-loop : tie.MeasureT-loop
 μ-loop part₀ times n i s c j₀ part j = suc n - j
@@ -36,28 +34,39 @@ loop-holds c =
 
 time-at-requires : tie.Need-time-at-requires Inv-loop μ-loop
 time-at-requires c κs =
-    let s = c .before .before .before in
-    record { table = s .pre .adds .table; row-from = s .pre .from-one; row-to = s .pre .adds .row; col-from = c .before .loop .inv .1; col-to = c .loop-test .taken }
+    let p = c .before .before .before .pre in
+    record { table = p .adds .table; row-from = p .from-one; row-to = p .adds .row; col-from = c .before .loop .inv .1; col-to = c .loop-test .taken }
+
+near : (c : tie.After-time-at Inv-loop μ-loop) →
+    Small (InMemory + InMemory) (slack (c .before .before .before .chosen .result .0) (asTime (c .time-at .result)))
+near c = slack-small _ _ (c .before .before .before .chosen .ensures .small) (c .time-at .ensures .small)
+
+slack-requires : tie.Need-slack-requires Inv-loop μ-loop
+slack-requires c κs = small-mono (omega arith) (near c)
 
 -- what is to be taken in next
-next : (l : tie.In-loop Inv-loop μ-loop) → let s = l .before .before .before in let row = behind (s .args .n) (timesIn (s .args .times .now)) (s .args .i) (s .args .s) in
-    Parts (from row (suc (s .args .n)) (l .before .loop .j)) (row (l .before .loop .j) ∷ []) (from row (suc (s .args .n)) (l .before .loop .j + 1))
+next : (l : tie.In-loop Inv-loop μ-loop) →
+    let s = l .before .before .before .args in
+    let row = behind (s .n) (timesIn (s .times .now)) (s .i) (s .s) in
+    Parts (from row (suc (s .n)) (l .before .loop .j)) (row (l .before .loop .j) ∷ []) (from row (suc (s .n)) (l .before .loop .j + 1))
 next l = next-one _ _ _ (omega arith)
 
 -- its limit
-room : (c : tie.After-time-at Inv-loop μ-loop) → let s = c .before .before .before .before in let a = timesIn (s .args .times .now) in
-    slack (c .before .before .before .chosen .result .0) (timeOf (c .time-at .result)) ≡ slack (chosen (s .args .n) a (s .args .i) (s .args .s)) (time (s .args .n) a (s .args .i) (c .before .before .loop .j))
-room c = ap₂ slack (c .before .before .before .chosen .ensures .is) (c .time-at .ensures .is)
-
-slack-requires : tie.Need-slack-requires Inv-loop μ-loop
-slack-requires c κs =
-    let t = first-of (next (c .before)) (c .before .before .loop .inv .0) in
-    rw (room c) (small-mono (omega (arith, limit-small (t .ready))) (head (t .small)))
+limit : (c : tie.After-slack Inv-loop μ-loop) →
+    let l = c .before .before .before in
+    let s = l .before .before .args in
+    let a = timesIn (s .times .now) in
+    asBound (c .slack .result) ≡ slack (chosen (s .n) a (s .i) (s .s)) (time (s .n) a (s .i) (l .loop .j))
+limit c = let t = c .before in c .slack .ensures ∙ ap₂ slack (t .before .before .before .chosen .ensures .is) (t .time-at .ensures .is)
 
 take-in-requires : tie.Need-take-in-requires Inv-loop μ-loop
 take-in-requires c κs =
     let l = c .before in
-    rw (l .slack .ensures, room (l .before)) (first-of (next (l .before .before)) (l .before .before .before .loop .inv .0))
+    let t = l .before in
+    record {
+      taking = rw (limit l) (first-of (next (t .before)) (t .before .before .loop .inv .0));
+      small = rw (l .slack .ensures) (small-mono (omega arith) (near t));
+    }
 
 same-length : tie.Need-same-length Inv-loop μ-loop
 same-length c = omega arith
@@ -66,10 +75,10 @@ returns : tie.Need-returns Inv-loop μ-loop
 returns c =
     let q = c .before .before in
     let l = q .before .before in
-    given-up (next (l .before .before)) (l .before .before .before .loop .inv .0) (rw (l .slack .ensures, room (l .before)) at (q .take-in .ensures)) (c .if1 .taken)
+    given-up (next (l .before .before)) (l .before .before .before .loop .inv .0) (rw (limit l) at (q .take-in .ensures)) (c .if1 .taken)
 
 add-j : tie.Need-add-j Inv-loop μ-loop
-add-j c = let s = c .before .before .before .before .before .before .before .before .before in omega (arith, s .pre .adds .table .few)
+add-j c = let s = c .before .before .before .before .before .before .before .before .before in omega (arith, s .pre .adds .table .departures .few)
 
 loop-less : tie.Need-loop-less Inv-loop μ-loop
 loop-less c = omega arith
@@ -78,7 +87,7 @@ loop-again : tie.Need-loop-again Inv-loop μ-loop
 loop-again c =
     let q = c .before .before in
     let l = q .before .before in (
-      onward (next (l .before .before)) (l .before .before .before .loop .inv .0) (rw (l .slack .ensures, room (l .before)) at (q .take-in .ensures)) (c .if1 .left),
+      onward (next (l .before .before)) (l .before .before .before .loop .inv .0) (rw (limit l) at (q .take-in .ensures)) (c .if1 .left),
       omega arith,
       omega arith,
       omega arith,

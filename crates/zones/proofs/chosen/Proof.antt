@@ -4,10 +4,8 @@ use native.Mathlib.Omega.{arith}
 use mathlib.Core.Path.{_≡_, sym, ap, _∙_}
 use Rattle.model.specs.Network.{secsOf}
 use Rattle.model.specs.Search.{chosen}
-use Rattle.model.proofs.Size.{small-at}
-use Rattle.zones.specs.declared.Entry.{Entry}
-use Rattle.zones.specs.Memory.{timesIn}
-use Rattle.zones.specs.Inner.{bound, timeOf}
+use Rattle.memory.specs.declared.Number.{Number}
+use Rattle.memory.specs.Numbers.{timesIn, asTime}
 use Rattle.zones.proofs.Columns.{column-range, chosen-secs}
 use Rattle.zones.proofs.chosen.Statement.{statement}
 use Rattle.zones.proofs.chosen.Tie as tie
@@ -28,8 +26,10 @@ enum-told c = search needs
 enum-known-t : tie.Need-enum-known-t
 enum-known-t c = search needs
 
-added : (c : tie.After-time-at) {e : Entry} → c .time-at .result ≡ e → let s = c .before .before in secsOf (timeOf e) ≡ chosen (s .args .n) (timesIn (s .args .times .now)) (s .args .i) (s .args .s)
-added c e = ap (λ x. secsOf (timeOf x)) (sym e) ∙ ap secsOf (c .time-at .ensures .is) ∙ sym (chosen-secs _ _ _ _ (omega arith))
+added : (c : tie.After-time-at) {e : Number} → c .time-at .result ≡ e →
+    let s = c .before .before in
+    secsOf (asTime e) ≡ chosen (s .args .n) (timesIn (s .args .times .now)) (s .args .i) (s .args .s)
+added c e = ap (λ x. secsOf (asTime x)) (sym e) ∙ ap secsOf (c .time-at .ensures .is) ∙ sym (chosen-secs _ _ _ _ (omega arith))
 
 returns-2 : tie.Need-returns-2
 unfolding secsOf
@@ -41,7 +41,7 @@ returns-3 : tie.Need-returns-3
 unfolding secsOf
 returns-3 c =
     let t = c .before .before .before in
-    record { is = added t (c .before .t .given .1); small = small-at (t .time-at .ensures .small) (ap bound (c .before .t .given .1)) }
+    record { is = added t (c .before .t .given .1); small = rw (c .before .t .given .1) at (t .time-at .ensures .small) }
 
 pub chosen-spec : {M : Type 1} → statement M
 chosen-spec =

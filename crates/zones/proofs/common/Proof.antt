@@ -2,21 +2,20 @@
 use Prim.Native.Nat.{suc, _-_, _≤_}
 use native.Mathlib.Omega.{arith}
 use mathlib.Core.Path.{_≡_, refl, ap}
-use mathlib.Core.List.{foldl, flatten}
-use mathlib.Core.Option.{some}
+use mathlib.Core.List.{flatten}
 use lib.ListN.{length}
-use Rattle.model.specs.Matrix.{constrain}
 use Rattle.model.specs.Pattern.{patternConstraints}
-use Rattle.zones.specs.Memory.{boundsIn}
+use Rattle.model.proofs.Patterns.{pattern-fits}
+use Rattle.model.proofs.Tabulated.{from, from-first}
+use Rattle.memory.specs.Numbers.{boundsIn}
 use Rattle.zones.specs.Inner.{pairRow}
-use Rattle.zones.proofs.Constraints.{pattern-taking}
-use Rattle.zones.proofs.Toward.{Toward, toward-start, first-of, given-up, onward, arrived, from, from-first, next-list, end-list}
+use Rattle.zones.proofs.Toward.{Toward, toward-start, first-of, given-up, onward, arrived, next-list, end-list}
 use Rattle.zones.proofs.common.Statement.{statement}
 use Rattle.zones.proofs.common.Tie as tie
 
 abbrev Inv-loop : tie.InvT-loop
 Inv-loop zone₀ pattern n i₀ zone i =
-    Toward (foldl (constrain (suc n)) (some (boundsIn zone₀)) (patternConstraints n (boundsIn pattern))) n zone (flatten (from (pairRow n (boundsIn pattern)) (suc n) i))
+    Toward n zone₀ (patternConstraints n (boundsIn pattern)) zone (flatten (from (pairRow n (boundsIn pattern)) (suc n) i))
     × (i ≤ suc n) × (length zone ≡ length zone₀)
 
 abbrev μ-loop : tie.MeasureT-loop
@@ -25,12 +24,17 @@ abbrev μ-loop : tie.MeasureT-loop
 loop-holds : tie.Need-loop-holds Inv-loop μ-loop
 unfolding patternConstraints
 loop-holds c =
-    (toward-start (pattern-taking (c .pre)) (ap flatten (from-first _ (suc (c .args .n)) 0 (suc (c .args .n)) (omega arith))), omega arith, refl)
+    let n = c .args .n in
+    let fits = pattern-fits n (boundsIn (c .args .pattern .now)) in (
+      toward-start (record { set = c .pre .set; fits = fits; fitting = c .pre .fitting }) (ap flatten (from-first _ (suc n) 0 (suc n) (omega arith))),
+      omega arith,
+      refl,
+    )
 
 common-row-requires : tie.Need-common-row-requires Inv-loop μ-loop
 common-row-requires c κs =
     let l = c .before in
-    record { taking = first-of (next-list _ _ _ (omega arith)) (l .before .loop .inv .0); size = l .before .before .pre .size; row = omega arith }
+    record { taking = first-of (next-list _ _ _ (omega arith)) (l .before .loop .inv .0); limits = l .before .before .pre .limits; row = omega arith }
 
 same-length : tie.Need-same-length Inv-loop μ-loop
 same-length c = omega arith
@@ -41,7 +45,7 @@ returns c =
     given-up (next-list _ _ _ (omega arith)) (k .before .before .before .loop .inv .0) (k .common-row .ensures) (c .if1 .taken)
 
 add-i : tie.Need-add-i Inv-loop μ-loop
-add-i c = let s = c .before .before .before .before .before .before in omega (arith, s .pre .ready .few)
+add-i c = let s = c .before .before .before .before .before .before in omega (arith, s .pre .limits .departures .few)
 
 loop-less : tie.Need-loop-less Inv-loop μ-loop
 loop-less c = omega arith

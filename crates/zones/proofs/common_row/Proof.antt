@@ -2,19 +2,18 @@
 use Prim.Native.Nat.{suc, _-_, _≤_}
 use native.Mathlib.Omega.{arith}
 use mathlib.Core.Path.{_≡_, refl}
-use mathlib.Core.List.{foldl}
-use mathlib.Core.Option.{some}
 use lib.ListN.{length}
-use Rattle.model.specs.Matrix.{constrain}
-use Rattle.zones.specs.Memory.{boundsIn}
+use Rattle.model.proofs.Size.{small-mono}
+use Rattle.model.proofs.Tabulated.{from, from-first, from-end}
+use Rattle.memory.specs.Numbers.{boundsIn}
 use Rattle.zones.specs.Inner.{pairRow, pairLimit}
-use Rattle.zones.proofs.Toward.{Toward, toward-start, first-of, given-up, onward, arrived, from, from-first, from-end, next-one}
+use Rattle.zones.proofs.Toward.{Toward, toward-start, first-of, given-up, onward, arrived, next-one}
 use Rattle.zones.proofs.common_row.Statement.{statement}
 use Rattle.zones.proofs.common_row.Tie as tie
 
 abbrev Inv-loop : tie.InvT-loop
 Inv-loop zone₀ pattern n i j₀ zone j =
-    Toward (foldl (constrain (suc n)) (some (boundsIn zone₀)) (pairRow n (boundsIn pattern) i)) n zone (from (pairLimit n (boundsIn pattern) i) (suc n) j)
+    Toward n zone₀ (pairRow n (boundsIn pattern) i) zone (from (pairLimit n (boundsIn pattern) i) (suc n) j)
     × (j ≤ suc n) × (length zone ≡ length zone₀)
 
 abbrev μ-loop : tie.MeasureT-loop
@@ -25,14 +24,13 @@ loop-holds c =
     (toward-start (c .pre .taking) (from-first _ (suc (c .args .n)) 0 (suc (c .args .n)) (omega arith)), omega arith, refl)
 
 pair-bound-requires : tie.Need-pair-bound-requires Inv-loop μ-loop
-pair-bound-requires c κs =
-    let p = c .before .before .pre in
-    omega (arith, p .taking .ready .few)
+pair-bound-requires c κs = let p = c .before .before .pre in record { pattern = p .limits; row = p .row; col = omega arith }
 
 take-in-requires : tie.Need-take-in-requires Inv-loop μ-loop
 take-in-requires c κs =
     let b = c .before in
-    rw (b .pair-bound .ensures) (first-of (next-one _ _ _ (omega arith)) (b .before .before .loop .inv .0))
+    let q = b .pair-bound .ensures in
+    record { taking = rw (q .is) (first-of (next-one _ _ _ (omega arith)) (b .before .before .loop .inv .0)); small = small-mono (omega arith) (q .small) }
 
 same-length : tie.Need-same-length Inv-loop μ-loop
 same-length c = omega arith
@@ -41,10 +39,10 @@ returns : tie.Need-returns Inv-loop μ-loop
 returns c =
     let k = c .before .before in
     let b = k .before .before in
-    given-up (next-one _ _ _ (omega arith)) (b .before .before .loop .inv .0) (rw (b .pair-bound .ensures) at (k .take-in .ensures)) (c .if1 .taken)
+    given-up (next-one _ _ _ (omega arith)) (b .before .before .loop .inv .0) (rw (b .pair-bound .ensures .is) at (k .take-in .ensures)) (c .if1 .taken)
 
 add-j : tie.Need-add-j Inv-loop μ-loop
-add-j c = let s = c .before .before .before .before .before .before .before in omega (arith, s .pre .taking .ready .few)
+add-j c = let s = c .before .before .before .before .before .before .before in omega (arith, s .pre .limits .departures .few)
 
 loop-less : tie.Need-loop-less Inv-loop μ-loop
 loop-less c = omega arith
@@ -52,8 +50,11 @@ loop-less c = omega arith
 loop-again : tie.Need-loop-again Inv-loop μ-loop
 loop-again c =
     let k = c .before .before in
-    let b = k .before .before in
-    (onward (next-one _ _ _ (omega arith)) (b .before .before .loop .inv .0) (rw (b .pair-bound .ensures) at (k .take-in .ensures)) (c .if1 .left), omega arith, omega arith)
+    let b = k .before .before in (
+      onward (next-one _ _ _ (omega arith)) (b .before .before .loop .inv .0) (rw (b .pair-bound .ensures .is) at (k .take-in .ensures)) (c .if1 .left),
+      omega arith,
+      omega arith,
+    )
 
 same-length-2 : tie.Need-same-length-2 Inv-loop μ-loop
 same-length-2 c = c .before .loop .inv .2

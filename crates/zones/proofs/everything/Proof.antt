@@ -4,8 +4,8 @@ use native.Mathlib.Omega.{arith}
 use mathlib.Core.Path.{_≡_, refl, _∙_}
 use lib.ListN.{length}
 use Rattle.model.specs.Matrix.{diagonal, everything}
-use Rattle.zones.specs.Memory.{boundsIn}
-use Rattle.zones.proofs.Places.{bounds-size}
+use Rattle.memory.specs.Numbers.{boundsIn}
+use Rattle.memory.proofs.Places.{bounds-size}
 use Rattle.zones.proofs.Fills.{Filled, rows-start, rows-step, rows-done}
 use Rattle.zones.proofs.everything.Statement.{statement}
 use Rattle.zones.proofs.everything.Tie as tie

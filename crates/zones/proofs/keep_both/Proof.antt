@@ -1,11 +1,9 @@
 -- One way, then the other.
 use borrow.Author.Needs.{needs}
 use mathlib.Core.Path.{refl}
-use mathlib.Core.List.{[], _∷_, foldl}
-use mathlib.Core.Option.{some}
-use Prim.Native.Nat.{suc}
-use Rattle.model.specs.Matrix.{Constraint, constrain}
-use Rattle.zones.specs.Memory.{boundsIn, timesIn}
+use mathlib.Core.List.{[], _∷_}
+use Rattle.model.specs.Matrix.{Constraint}
+use Rattle.memory.specs.Numbers.{boundsIn, timesIn}
 use Rattle.zones.specs.Inner.{keepOne, keepBoth}
 use Rattle.zones.proofs.Toward.{Toward, Parts, toward-start, first-of, given-up, onward, at-last}
 use Rattle.zones.proofs.keep_both.Statement.{statement}
@@ -14,10 +12,10 @@ use Rattle.zones.proofs.keep_both.Tie as tie
 ahead : {j k : Constraint} → Parts (j ∷ k ∷ []) (j ∷ []) (k ∷ [])
 ahead = record { is = refl }
 
-keep-requires : tie.Need-keep-requires
-keep-requires c κs =
+keep-one-requires : tie.Need-keep-one-requires
+keep-one-requires c κs =
     let p = c .before .pre in
-    record { taking = first-of ahead (toward-start (p .taking) refl); size = p .size; adds = p .adds; adds-other = p .adds-other }
+    record { taking = first-of ahead (toward-start (p .taking) refl); source = p .source; adds = p .adds; adds-other = p .adds-other }
 
 same-length : tie.Need-same-length
 same-length c = search needs
@@ -25,24 +23,23 @@ same-length c = search needs
 returns : tie.Need-returns
 returns c =
     let k = c .before .before in
-    given-up ahead (toward-start (k .before .before .pre .taking) refl) (k .keep .ensures) (c .if1 .taken)
+    given-up ahead (toward-start (k .before .before .pre .taking) refl) (k .keep-one .ensures) (c .if1 .taken)
 
 -- the first way is taken in
 halfway : (e : tie.Else1) →
     let s = e .before .before .before .before .args in
     let a = timesIn (s .times .now) in
     let d = boundsIn (s .zone .now) in
-    Toward (foldl (constrain (suc (s .n))) (some (boundsIn (s .part .now))) (keepBoth (s .n) a d (s .a) (s .b))) (s .n) (e .before .before .keep .last .0)
-    (keepOne (s .n) a d (s .b) (s .a))
+    Toward (s .n) (s .part .now) (keepBoth (s .n) a d (s .a) (s .b)) (e .before .before .keep-one .last .0) (keepOne (s .n) a d (s .b) (s .a))
 halfway e =
     let k = e .before .before in
-    onward ahead (toward-start (k .before .before .pre .taking) refl) (k .keep .ensures) (e .if1 .left)
+    onward ahead (toward-start (k .before .before .pre .taking) refl) (k .keep-one .ensures) (e .if1 .left)
 
-keep-requires-2 : tie.Need-keep-requires-2
-keep-requires-2 c κs =
+keep-one-requires-2 : tie.Need-keep-one-requires-2
+keep-one-requires-2 c κs =
     let e = c .before in
     let p = e .before .before .before .before .pre in
-    record { taking = halfway e .taking; size = p .size; adds = p .adds-other; adds-other = p .adds }
+    record { taking = halfway e .taking; source = p .source; adds = p .adds-other; adds-other = p .adds }
 
 same-length-2 : tie.Need-same-length-2
 same-length-2 c = search needs
@@ -50,8 +47,8 @@ same-length-2 c = search needs
 returns-2 : tie.Need-returns-2
 returns-2 c =
     let k = c .before in
-    at-last (halfway (k .before .before)) (k .keep2 .ensures)
+    at-last (halfway (k .before .before)) (k .keep-one2 .ensures)
 
 pub keep-both-spec : {M : Type 1} → statement M
 keep-both-spec =
-    tie.close (tie.spec keep-requires same-length returns keep-requires-2 same-length-2 returns-2)
+    tie.close (tie.spec keep-one-requires same-length returns keep-one-requires-2 same-length-2 returns-2)

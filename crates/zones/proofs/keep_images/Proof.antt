@@ -1,22 +1,21 @@
 -- Row by row before row i.
-use Prim.Native.Nat.{suc, _-_, _≤_}
+use Prim.Native.Nat.{_-_, _≤_}
 use native.Mathlib.Omega.{arith}
 use mathlib.Core.Path.{_≡_, refl, ap}
-use mathlib.Core.List.{foldl, flatten}
-use mathlib.Core.Option.{some}
+use mathlib.Core.List.{flatten}
 use lib.ListN.{length}
-use Rattle.model.specs.Matrix.{constrain}
-use Rattle.zones.specs.Memory.{boundsIn, timesIn}
+use Rattle.model.proofs.Tabulated.{from, from-first}
+use Rattle.memory.specs.Numbers.{boundsIn, timesIn}
 use Rattle.zones.specs.Inner.{imagePairs, images}
-use Rattle.zones.proofs.Toward.{Toward, toward-start, first-of, given-up, onward, arrived, from, from-first, next-list, end-list}
+use Rattle.zones.proofs.Toward.{Toward, toward-start, first-of, given-up, onward, arrived, next-list, end-list}
 use Rattle.zones.proofs.keep_images.Statement.{statement}
 use Rattle.zones.proofs.keep_images.Tie as tie
 
 abbrev Inv-loop : tie.InvT-loop
 Inv-loop part₀ times zone cols n i s last l₀ part l =
-    Toward (foldl (constrain (suc n)) (some (boundsIn part₀)) (images n (timesIn times) (boundsIn zone) cols i s)) n part
-    (flatten (from (imagePairs n (timesIn times) (boundsIn zone) cols i s) i l))
-    × (l ≤ i) × (length part ≡ length part₀)
+    let a = timesIn times in
+    let d = boundsIn zone in
+    Toward n part₀ (images n a d cols i s) part (flatten (from (imagePairs n a d cols i s) i l)) × (l ≤ i) × (length part ≡ length part₀)
 
 abbrev μ-loop : tie.MeasureT-loop
 μ-loop part₀ times zone cols n i s last l₀ part l = i - l
@@ -27,7 +26,7 @@ loop-holds c =
     (toward-start (s .pre .taking) (ap flatten (from-first _ (s .args .i) 0 (s .args .i) (omega arith))), omega arith, refl)
 
 mul-t : tie.Need-mul-t Inv-loop μ-loop
-mul-t c = let s = c .before .before .before in omega (arith, s .pre .adds .row, s .pre .adds .table .few)
+mul-t c = let s = c .before .before .before in omega (arith, s .pre .adds .row, s .pre .adds .table .departures .few)
 
 shared-slice-read-t : tie.Need-shared-slice-read-t Inv-loop μ-loop
 shared-slice-read-t c = let s = c .before .before .before .before in omega (arith, s .pre .cols-size)
@@ -38,7 +37,7 @@ keep-both-requires c κs =
     let p = l .before .before .before .pre in
     record {
       taking = first-of (next-list _ _ _ (l .loop-test .taken)) (l .before .loop .inv .0);
-      size = p .size;
+      source = p .source;
       adds = p .adds;
       adds-other = record { table = p .adds .table; row = omega (arith, p .adds .row); column = p .columns _ (l .loop-test .taken) };
     }
@@ -53,7 +52,7 @@ returns c =
     given-up (next-list _ _ _ (l .loop-test .taken)) (l .before .loop .inv .0) (k .keep-both .ensures) (c .if1 .taken)
 
 add-l : tie.Need-add-l Inv-loop μ-loop
-add-l c = let s = c .before .before .before .before .before .before .before .before in omega (arith, s .pre .adds .row, s .pre .adds .table .few)
+add-l c = let s = c .before .before .before .before .before .before .before .before in omega (arith, s .pre .adds .row, s .pre .adds .table .departures .few)
 
 loop-less : tie.Need-loop-less Inv-loop μ-loop
 loop-less c = omega arith

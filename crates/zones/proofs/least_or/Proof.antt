@@ -2,7 +2,7 @@
 use borrow.Author.Needs.{needs}
 use Rattle.model.specs.Search.{leastOr}
 use Rattle.model.proofs.Size.{small-size, neg-small}
-use Rattle.zones.proofs.Numbers.{wide}
+use Rattle.memory.proofs.Numbers.{wide}
 use Rattle.zones.proofs.least_or.Statement.{statement}
 use Rattle.zones.proofs.least_or.Tie as tie
 

@@ -1,25 +1,24 @@
 -- From the last departure before t down to the clock.
-use borrow.Author.Needs.{needs}
-use Prim.Native.Nat.{suc, _*_, _≤_}
+use Prim.Native.Nat.{_*_, _≤_}
 use native.Mathlib.Omega.{arith}
 use mathlib.Core.Path.{ap, ap₂, _∙_}
 use lib.IntN.{natAbs, negℤ}
-use Rattle.model.specs.Bound.{Bound, most, plus}
+use Rattle.model.specs.Sizes.{mostDepartures}
+use Rattle.model.specs.Bound.{most, plus}
 use Rattle.model.specs.Network.{clocked}
 use Rattle.model.specs.Search.{leastOr}
-use Rattle.model.specs.Conditions.{Small}
-use Rattle.model.proofs.Size.{small-mono, term-small, neg-small, least-small}
-use Rattle.zones.specs.Memory.{boundsIn}
-use Rattle.zones.specs.Inner.{bound, values, InMemory, Widest}
-use Rattle.zones.proofs.Numbers.{wide}
-use Rattle.zones.proofs.Picked.{early-term, late-term, Tightest, tightest-start, tightest-step, tightest-done}
+use Rattle.model.proofs.Size.{small-mono, neg-small, least-small}
+use Rattle.memory.specs.Numbers.{boundsIn, asBound, InMemory}
+use Rattle.memory.proofs.Numbers.{wide}
+use Rattle.zones.specs.Inner.{values}
+use Rattle.zones.proofs.Picked.{early-term, late-term, term-wide, Tightest, tightest-start, tightest-step, tightest-done}
 use Rattle.zones.proofs.next_time.Statement.{statement}
 use Rattle.zones.proofs.next_time.Tie as tie
 
 abbrev Inv-loop : tie.InvT-loop
 Inv-loop zone n times t early₀ late₀ s₀ early late s =
-    Tightest t (early-term n (boundsIn zone) t (clocked (values times))) s (bound early)
-    × Tightest t (late-term n (boundsIn zone) t (clocked (values times))) s (bound late)
+    Tightest t (early-term n (boundsIn zone) t (clocked (values times))) s (asBound early)
+    × Tightest t (late-term n (boundsIn zone) t (clocked (values times))) s (asBound late)
 
 abbrev μ-loop : tie.MeasureT-loop
 μ-loop zone n times t early₀ late₀ s₀ early late s = s
@@ -31,25 +30,25 @@ sub-s : tie.Need-sub-s Inv-loop μ-loop
 sub-s c = omega arith
 
 clocked-requires : tie.Need-clocked-requires Inv-loop μ-loop
-clocked-requires c κs = let s = c .before .before in omega (arith, s .pre .few, s .pre .to-n, c .before .loop .inv .0 .upto)
+clocked-requires c κs = omega arith
 
 bound-at-requires : tie.Need-bound-at-requires Inv-loop μ-loop
 bound-at-requires c κs =
     let l = c .before .before in
     let p = l .before .pre in
-    record { few = p .few; size = p .size; row = omega (arith, p .to-n); col = omega (arith, p .to-n, l .loop .inv .0 .upto) }
+    record { zone = p .zone; row = omega (arith, p .to-n); col = omega (arith, p .to-n, l .loop .inv .0 .upto) }
 
--- the time before t
-before-small : (c : tie.After-clocked Inv-loop μ-loop) → natAbs (c .clocked .result .0) ≤ c .before .before .before .args .t * InMemory
-before-small c =
+few : (s : tie.Start Inv-loop μ-loop) → s .args .t ≤ mostDepartures
+few s = omega (arith, s .pre .to-n, s .pre .zone .departures .few)
+
+-- the time of the departure before t, and its negation
+near : (c : tie.After-clocked Inv-loop μ-loop) → natAbs (c .clocked .result .0) ≤ c .before .before .before .args .t * InMemory
+near c =
     let l = c .before .before in
     rw (c .clocked .ensures) (l .before .pre .small _ (omega (arith, l .loop .inv .0 .upto)))
 
-late-small : (c : tie.After-bound-at Inv-loop μ-loop) → Small (suc (c .before .before .before .before .args .t) * InMemory) (plus (bound (c .bound-at .result)) (most (c .before .clocked .result .0)))
-late-small c = term-small (c .before .before .before .before .args .t) (c .before .clocked .result .0) (c .bound-at .ensures .small) (before-small (c .before))
-
 plus-requires : tie.Need-plus-requires Inv-loop μ-loop
-plus-requires c κs = small-mono (let p = c .before .before .before .before .pre in omega (arith, p .to-n, p .few)) (late-small c)
+plus-requires c κs = let x = c .before in term-wide (x .clocked .result .0) (few (x .before .before .before)) (c .bound-at .ensures .small) (near x)
 
 tighter-requires : tie.Need-tighter-requires Inv-loop μ-loop
 tighter-requires c κs = tt
@@ -58,21 +57,21 @@ bound-at-requires-2 : tie.Need-bound-at-requires-2 Inv-loop μ-loop
 bound-at-requires-2 c κs =
     let l = c .before .before .before .before .before in
     let p = l .before .pre in
-    record { few = p .few; size = p .size; row = omega (arith, p .to-n, l .loop .inv .0 .upto); col = omega (arith, p .to-n) }
+    record { zone = p .zone; row = omega (arith, p .to-n, l .loop .inv .0 .upto); col = omega (arith, p .to-n) }
 
 negated-requires : tie.Need-negated-requires Inv-loop μ-loop
 negated-requires c κs =
     let x = c .before .before .before .before in
-    let p = x .before .before .before .pre in
-    wide _ (let h = neg-small (x .clocked .result .0) (before-small x) in omega (arith, p .to-n, p .few))
+    wide _ (let h = neg-small (x .clocked .result .0) (near x) in omega (arith, few (x .before .before .before)))
 
-early-small : (c : tie.After-negated Inv-loop μ-loop) → Small (suc (c .before .before .before .before .before .before .before .before .args .t) * InMemory) (plus (bound (c .before .bound-at2 .result)) (most (c .negated .result .0)))
-early-small c =
-    let x = c .before .before .before .before .before in
-    term-small (x .before .before .before .args .t) (c .negated .result .0) (c .before .bound-at2 .ensures .small) (rw (c .negated .ensures) (neg-small (x .clocked .result .0) (before-small x)))
+near-negated : (c : tie.After-negated Inv-loop μ-loop) →
+    natAbs (c .negated .result .0) ≤ c .before .before .before .before .before .before .before .before .args .t * InMemory
+near-negated c = let x = c .before .before .before .before .before in rw (c .negated .ensures) (neg-small (x .clocked .result .0) (near x))
 
 plus-requires-2 : tie.Need-plus-requires-2 Inv-loop μ-loop
-plus-requires-2 c κs = small-mono (let p = c .before .before .before .before .before .before .before .before .pre in omega (arith, p .to-n, p .few)) (early-small c)
+plus-requires-2 c κs =
+    let s = c .before .before .before .before .before .before .before .before in
+    term-wide (c .negated .result .0) (few s) (c .before .bound-at2 .ensures .small) (near-negated c)
 
 tighter-requires-2 : tie.Need-tighter-requires-2 Inv-loop μ-loop
 tighter-requires-2 c κs = tt
@@ -90,19 +89,14 @@ loop-again c =
     let x = b .before in
     let inv = x .before .before .loop .inv in
     let h : 1 ≤ x .before .before .loop .s = omega arith in (
-      rw (c .tighter2 .ensures) (tightest-step (inv .0) (bound (e .plus2 .result)) h
-          (rw (e .plus2 .ensures) (early-small g))
-          (e .plus2 .ensures ∙ ap₂ (λ b z. plus b (most z)) (g .before .bound-at2 .ensures .is) (g .negated .ensures ∙ ap negℤ (x .clocked .ensures)))),
-      rw (t .tighter .ensures) (tightest-step (inv .1) (bound (l .plus .result)) h
-          (rw (l .plus .ensures) (late-small b))
-          (l .plus .ensures ∙ ap₂ (λ b z. plus b (most z)) (b .bound-at .ensures .is) (x .clocked .ensures))),
+      rw (c .tighter2 .ensures, e .plus2 .ensures) (tightest-step (inv .0) _ (g .negated .result .0) h (g .before .bound-at2 .ensures .small) (near-negated g)
+          (ap₂ (λ b z. plus b (most z)) (g .before .bound-at2 .ensures .is) (g .negated .ensures ∙ ap negℤ (x .clocked .ensures)))),
+      rw (t .tighter .ensures, l .plus .ensures) (tightest-step (inv .1) _ (x .clocked .result .0) h (b .bound-at .ensures .small) (near x)
+          (ap₂ (λ b z. plus b (most z)) (b .bound-at .ensures .is) (x .clocked .ensures))),
     )
 
 least-or-requires : tie.Need-least-or-requires Inv-loop μ-loop
-least-or-requires c κs =
-    let p = c .before .before .pre in
-    let small : (b : Bound) → Small (suc (c .before .before .args .t) * InMemory) b → Small Widest b = λ b. small-mono (omega (arith, p .to-n, p .few)) in
-    search (needs, small)
+least-or-requires c κs = small-mono (omega (arith, few (c .before .before))) (c .before .loop .inv .0 .small)
 
 returns : tie.Need-returns Inv-loop μ-loop
 returns c =

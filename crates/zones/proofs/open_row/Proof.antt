@@ -5,9 +5,9 @@ use native.Mathlib.Omega.{arith}
 use mathlib.Core.Path.{_≡_, _∙_}
 use lib.ListN.{length}
 use Rattle.model.specs.Matrix.{diagonal}
-use Rattle.zones.specs.Memory.{boundsIn}
+use Rattle.memory.specs.Numbers.{boundsIn}
 use Rattle.zones.specs.Inner.{RowFilled}
-use Rattle.zones.proofs.Places.{bounds-size}
+use Rattle.memory.proofs.Places.{bounds-size}
 use Rattle.zones.proofs.Fills.{row-start, row-step}
 use Rattle.zones.proofs.open_row.Statement.{statement}
 use Rattle.zones.proofs.open_row.Tie as tie
@@ -37,8 +37,11 @@ loop-again : tie.Need-loop-again Inv-loop μ-loop
 loop-again c =
     let p = c .before in
     let d = p .before .before in
-    let l = d .before in
-    (rw (p .put .ensures) (row-step _ (l .before .loop .inv .0) (bounds-size _ ∙ omega arith) (omega arith) (omega arith) (d .diagonal .ensures .0)), omega arith, omega arith)
+    let l = d .before in (
+      rw (p .put .ensures) (row-step _ (l .before .loop .inv .0) (bounds-size _ ∙ omega arith) (omega arith) (omega arith) (d .diagonal .ensures .0)),
+      omega arith,
+      omega arith,
+    )
 
 same-length : tie.Need-same-length Inv-loop μ-loop
 same-length c = c .before .loop .inv .2

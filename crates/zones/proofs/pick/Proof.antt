@@ -1,8 +1,7 @@
 -- Departure by departure.
 use Prim.Native.Nat.{suc, _-_}
 use native.Mathlib.Omega.{arith}
-use Rattle.zones.specs.Memory.{boundsIn}
-use Rattle.zones.proofs.ReadyZones.{zone-size}
+use Rattle.memory.specs.Numbers.{boundsIn}
 use Rattle.zones.proofs.Picked.{Picking, picking-start, picking-step, picking-done, times-small}
 use Rattle.zones.proofs.pick.Statement.{statement}
 use Rattle.zones.proofs.pick.Tie as tie
@@ -17,21 +16,19 @@ loop-holds : tie.Need-loop-holds Inv-loop μ-loop
 loop-holds c = picking-start _ _
 
 next-time-requires : tie.Need-next-time-requires Inv-loop μ-loop
-next-time-requires c κs =
-    let r = c .before .before .pre .ready in
-    record { few = r .few; size = zone-size r; to-n = c .loop-test .taken; small = times-small (c .before .loop .inv) }
+next-time-requires c κs = record { zone = c .before .before .pre; to-n = c .loop-test .taken; small = times-small (c .before .loop .inv) }
 
 sub-times : tie.Need-sub-times Inv-loop μ-loop
 sub-times c = omega (arith, c .before .before .loop .inv .count)
 
 mul-times : tie.Need-mul-times Inv-loop μ-loop
-mul-times c = omega (arith, c .before .before .before .pre .ready .few)
+mul-times c = omega (arith, c .before .before .before .pre .departures .few)
 
 array-set-from-times : tie.Need-array-set-from-times Inv-loop μ-loop
-array-set-from-times c = omega (arith, c .before .before .before .pre .ready .few)
+array-set-from-times c = omega (arith, c .before .before .before .pre .departures .few)
 
 add-t : tie.Need-add-t Inv-loop μ-loop
-add-t c = omega (arith, c .before .before .before .pre .ready .few)
+add-t c = omega (arith, c .before .before .before .pre .departures .few)
 
 loop-less : tie.Need-loop-less Inv-loop μ-loop
 loop-less c = omega arith
@@ -39,7 +36,8 @@ loop-less c = omega arith
 loop-again : tie.Need-loop-again Inv-loop μ-loop
 loop-again c =
     let l = c .before in
-    picking-step (l .before .loop .inv) (c .next-time .result) (l .loop-test .taken) (l .before .before .pre .ready .few) (c .next-time .ensures .small) (c .next-time .ensures .is)
+    let q = c .next-time .ensures in
+    picking-step (l .before .loop .inv) (c .next-time .result) (l .loop-test .taken) (l .before .before .pre .departures .few) (q .small) (q .is)
 
 returns : tie.Need-returns Inv-loop μ-loop
 returns c = picking-done (c .before .loop .inv) (omega arith)

@@ -5,21 +5,20 @@ use native.Mathlib.Omega.{arith}
 use native.Mathlib.Decide.{ℕ-discrete}
 use mathlib.Core.Path.{_≡_, sym, ap, ap₂, _∙_}
 use lib.ListN.{length}
-use Rattle.model.specs.Bound.{Bound, any, plus, tighter}
+use Rattle.model.specs.Bound.{any, plus, tighter}
 use Rattle.model.specs.Matrix.{entry}
-use Rattle.model.specs.Conditions.{Small}
 use Rattle.model.proofs.Bounds.{tighter-of-le}
 use Rattle.model.proofs.Size.{small-mono, small-sum}
-use Rattle.zones.specs.Memory.{boundsIn}
-use Rattle.zones.specs.Inner.{bound, across, RowFilled, InMemory, Widest}
-use Rattle.zones.proofs.Places.{bounds-size}
+use Rattle.memory.specs.Numbers.{boundsIn, asBound}
+use Rattle.zones.specs.Inner.{across, RowFilled}
+use Rattle.memory.proofs.Places.{bounds-size}
 use Rattle.zones.proofs.Fills.{row-start, row-step, row-kept}
 use Rattle.zones.proofs.relax_row.Statement.{statement}
 use Rattle.zones.proofs.relax_row.Tie as tie
 
 abbrev Inv-loop : tie.InvT-loop
 Inv-loop zone₀ n i b way j₀ zone j =
-    RowFilled n (boundsIn zone₀) (boundsIn zone) (across n (boundsIn zone₀) i b (bound way)) i j × (j ≤ suc n) × (length zone ≡ length zone₀)
+    RowFilled n (boundsIn zone₀) (boundsIn zone) (across n (boundsIn zone₀) i b (asBound way)) i j × (j ≤ suc n) × (length zone ≡ length zone₀)
 
 abbrev μ-loop : tie.MeasureT-loop
 μ-loop zone₀ n i b way j₀ zone j = suc n - j
@@ -46,15 +45,16 @@ bound-at-requires-2 c κs = omega arith
 plus-requires : tie.Need-plus-requires Inv-loop μ-loop
 plus-requires c κs =
     let s = c .before .before .before .before .before .before .before .before in
-    let sum : (b : Bound) → Small InMemory b → Small Widest (plus (bound (s .args .way)) b) = λ b h. small-mono (omega arith) (small-sum (s .pre .way-small) h) in
-    search (needs, sum)
+    small-mono (omega arith) (small-sum (s .pre .way-small) (c .bound-at2 .ensures .small))
 
 tighter-requires : tie.Need-tighter-requires Inv-loop μ-loop
 tighter-requires c κs = search needs
 
 -- row b at the place
-base : (l : tie.In-loop Inv-loop μ-loop) → let s = l .before .before .before .before in let j = l .before .loop .j in
-    entry (suc (s .args .n)) (boundsIn (l .before .loop .zone)) (s .args .b) j ≡ entry (suc (s .args .n)) (boundsIn (s .args .zone .now)) (s .args .b) j
+base : (l : tie.In-loop Inv-loop μ-loop) →
+    let s = l .before .before .before .before .args in
+    let j = l .before .loop .j in
+    entry (suc (s .n)) (boundsIn (l .before .loop .zone)) (s .b) j ≡ entry (suc (s .n)) (boundsIn (s .zone .now)) (s .b) j
 base l =
     let s = l .before .before .before .before in
     let inv = l .before .loop .inv .0 in
@@ -64,8 +64,10 @@ base l =
     ]
 
 -- the new entry
-new : (c : tie.After-tighter Inv-loop μ-loop) → let l = c .before .before .before .before .before .before in let s = l .before .before .before .before in let j = l .before .loop .j in
-    bound (c .tighter .result) ≡ across (s .args .n) (boundsIn (s .args .zone .now)) (s .args .i) (s .args .b) (bound (s .args .way)) j
+new : (c : tie.After-tighter Inv-loop μ-loop) →
+    let l = c .before .before .before .before .before .before in
+    let s = l .before .before .before .before .args in
+    asBound (c .tighter .result) ≡ across (s .n) (boundsIn (s .zone .now)) (s .i) (s .b) (asBound (s .way)) (l .before .loop .j)
 new c =
     let p = c .before in
     let y = p .before in
@@ -73,7 +75,7 @@ new c =
     let l = x .before .before in
     c .tighter .ensures
     ∙ ap₂ tighter (x .bound-at .ensures .is ∙ l .before .loop .inv .0 .left _ (omega arith) (omega arith))
-    (p .plus .ensures ∙ ap (plus (bound (l .before .before .before .before .args .way))) (y .bound-at2 .ensures .is ∙ base l))
+    (p .plus .ensures ∙ ap (plus (asBound (l .before .before .before .before .args .way))) (y .bound-at2 .ensures .is ∙ base l))
 
 put-requires : tie.Need-put-requires Inv-loop μ-loop
 put-requires c κs =

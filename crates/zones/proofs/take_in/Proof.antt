@@ -1,13 +1,11 @@
 -- A blank limit leaves all times, and so does one that the zone implies.
 use borrow.Author.Needs.{needs}
-use native.Mathlib.Omega.{arith}
 use mathlib.Core.Path.{refl}
 use Rattle.model.specs.Bound.{most}
 use Rattle.model.specs.Matrix.{constrain, within}
 use Rattle.zones.specs.Conditions.{kept}
-use Rattle.zones.specs.Inner.{Taking, limited}
-use Rattle.zones.proofs.ReadyZones.{zone-size}
-use Rattle.zones.proofs.Relaxed.{row-in, col-in, all-left}
+use Rattle.zones.specs.Inner.{TakingOne}
+use Rattle.zones.proofs.Relaxed.{inside, all-left}
 use Rattle.zones.proofs.take_in.Statement.{statement}
 use Rattle.zones.proofs.take_in.Tie as tie
 
@@ -23,11 +21,11 @@ returns c = rw (c .enum-told .given .1) (kept refl)
 
 -- the constraint can be taken in
 taking : (c : tie.After-known-told) → let s = c .before .before .before in let l = c .before .limit .given .0 in
-    Taking (s .args .n) (s .args .zone .now) (limited (s .args .a) (s .args .b) (most (l .0 .0)))
+    TakingOne (s .args .n) (s .args .zone .now) (s .args .a) (s .args .b) (most (l .0 .0))
 taking c = rw (c .before .limit .given .1) at (c .before .before .before .pre)
 
 bound-at-requires : tie.Need-bound-at-requires
-bound-at-requires c κs = let p = taking (c .before) in omega (arith, p .ready .few, zone-size (p .ready), row-in p, col-in p)
+bound-at-requires c κs = let p = taking (c .before) in record { zone = p .taking .set .zone; row = inside p .row-fits; col = inside p .col-fits }
 
 implies-requires : tie.Need-implies-requires
 implies-requires c κs = search needs

@@ -1,8 +1,8 @@
 -- Below 0, x is more than n in size where x < -n; from 0 on, where n < x.
 use borrow.Author.Needs.{needs}
 use borrow.Author.Tests.{lt-ltb, le-ltb}
-use mathlib.Core.Path.{_≡_, refl, sym}
-use mathlib.Core.Bool.{Bool, true, false}
+use mathlib.Core.Path.{_≡_}
+use mathlib.Core.Bool.{true, false}
 use Prim.Native.Nat.{ℕ}
 use native.Mathlib.Omega.{arith}
 use lib.Dec.{ltb}
@@ -11,13 +11,9 @@ use lib.Signed.{ltZ}
 use mir.Syntax.{w64}
 use mir.Val.{toZ, ofZ}
 use mir.ValLaws.{toZ-pos}
-use Rattle.ints.proofs.Integers.{ints, pos-ud, neg-ud, abs-ud, opposite-fits, opposite}
+use Rattle.ints.proofs.Integers.{ints, same-test, pos-ud, neg-ud, abs-ud, opposite-fits, opposite}
 use Rattle.ints.proofs.Seconds.beyond.Statement.{statement}
 use Rattle.ints.proofs.Seconds.beyond.Tie as tie
-
-same-test : (s t : Bool) → (s ≡ true → t ≡ true) × (s ≡ false → t ≡ false) → s ≡ t
-same-test true t h = sym (h .0 refl)
-same-test false t h = sym (h .1 refl)
 
 -- y is x and z the limit or its negation, as the machine reads them
 below : {x y z : ℤ} (n : ℕ) → y ≡ x → z ≡ negℤ (pos n) → ltZ y (pos 0) ≡ true → ltZ y z ≡ ltb n (natAbs x)
@@ -32,14 +28,8 @@ above {x} {y} {z} n e f h =
 told : (c : tie.After-struct-told) → let x = c .before .before .args .self .0 in toZ w64 (ofZ w64 x) ≡ x
 told c = search needs
 
-cast-result : tie.Need-cast-result
-cast-result c = search needs
-
 sub-result : tie.Need-sub-result
 sub-result c = opposite-fits w64 (c .before .before .before .args .limit) (omega arith)
-
-cast-result-2 : tie.Need-cast-result-2
-cast-result-2 c = search needs
 
 returns : tie.Need-returns
 returns c =
@@ -52,4 +42,4 @@ returns-2 c =
     above n (told (c .before .before .before)) (toZ-pos w64 n (omega arith)) (c .before .before .if1 .left)
 
 pub beyond-spec : {M : Type 1} → statement M
-beyond-spec = tie.close (tie.spec cast-result sub-result cast-result-2 returns returns-2)
+beyond-spec = tie.close (tie.spec (λ c. search needs) sub-result (λ c. search needs) returns returns-2)

@@ -6,7 +6,8 @@ use Prim.Native.Nat.{ℕ, _+_, _-_, _*_, _≤_, _<_}
 use native.Mathlib.Omega.{arith}
 use lib.ListN.{length}
 use Rattle.model.specs.Packed.{got, numOf, numAt, bits}
-use Rattle.packed.proofs.Laws.{bit-small, num-next, num-suc}
+use Rattle.model.proofs.Digits.{bit-small}
+use Rattle.packed.proofs.Laws.{num-next, num-suc}
 use Rattle.packed.proofs.Cursor.bits.Statement.{statement}
 use Rattle.packed.proofs.Cursor.bits.Tie as tie
 

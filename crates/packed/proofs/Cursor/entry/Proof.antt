@@ -26,7 +26,7 @@ bit-read c =
 raw-read : (c : tie.After-raw) →
     let b = c .before .before .before .before .before in
     let a = b .before .before .before .before .args in
-    bits (a .s .now) (a .width) (a .self .at) (b .bit .given .0 .1 .0 .at) ≡ got (c .raw .given .0 .0) (c .raw .given .0 .1 .0 .at)
+    bits (a .s .now) (a .kind .width) (a .self .at) (b .bit .given .0 .1 .0 .at) ≡ got (c .raw .given .0 .0) (c .raw .given .0 .1 .0 .at)
 raw-read c =
     let p = c .before .before .before .before .before .before .before .before .before .args .self .at in
     sym (c .before .before .bits2 .ensures p) ∙ ap (fieldRead p) (c .raw .given .1)
@@ -34,23 +34,23 @@ raw-read c =
 value-read : (c : tie.After-of) →
     let d = c .before .before .before in
     let a = d .before .before .before .before .before .before .before .before .before .args in
-    c .of .result .0 ≡ signed (2 ^ (a .width - 1)) (d .raw .given .0 .0)
+    c .of .result .0 ≡ signed (2 ^ (a .kind .width - 1)) (d .raw .given .0 .0)
 unfolding signed
 value-read c =
     let d = c .before .before .before in
     let t = d .before .before .before .before .before .before .before .before .before in
     let r = c .before .sign-extended in
     c .of .ensures ∙ toZ-ofZ w32 (r .result) (record { sfits = r .ok }) ∙ r .ensures
-    ∙ ap (λ (h : ℕ). signed h (d .raw .given .0 .0)) (t .pre .3)
+    ∙ ap (λ (h : ℕ). signed h (d .raw .given .0 .0)) (t .pre .weight)
 
 tested : (c : tie.After-beyond) →
     let d = c .before .before .before .before in
-    let a = d .before .before .before .before .before .before .before .before .before .args in
-    beyond (a .limit) (present (signed (2 ^ (a .width - 1)) (d .raw .given .0 .0))) ≡ c .beyond .result
+    let k = d .before .before .before .before .before .before .before .before .before .args .kind in
+    beyond (k .limit) (present (signed (2 ^ (k .width - 1)) (d .raw .given .0 .0))) ≡ c .beyond .result
 unfolding beyond
 tested c =
-    let a = c .before .before .before .before .before .before .before .before .before .before .before .before .before .args in
-    sym (c .beyond .ensures ∙ ap (λ (z : ℤ). ltb (a .limit) (natAbs z)) (value-read (c .before)))
+    let k = c .before .before .before .before .before .before .before .before .before .before .before .before .before .args .kind in
+    sym (c .beyond .ensures ∙ ap (λ (z : ℤ). ltb (k .limit) (natAbs z)) (value-read (c .before)))
 
 bits-requires : tie.Need-bits-requires
 bits-requires c κs = search needs
@@ -63,14 +63,14 @@ enum-told c = search needs
 
 returns : tie.Need-returns
 unfolding entry
-returns c f =
+returns c =
     let d = c .before .before in
     let p = d .before .before .args .self .at in
     simp (sym (d .bits .ensures p) ∙ ap (fieldRead p) (c .enum-told .given .1))
 
 returns-2 : tie.Need-returns-2
 unfolding entry
-returns-2 c f = simp (rw (c .if1 .taken) at (bit-read (c .before .before)))
+returns-2 c = simp (rw (c .if1 .taken) at (bit-read (c .before .before)))
 
 bits-requires-2 : tie.Need-bits-requires-2
 bits-requires-2 c κs =
@@ -86,7 +86,7 @@ enum-told-2 c = search needs
 
 returns-3 : tie.Need-returns-3
 unfolding entry
-returns-3 c f =
+returns-3 c =
     let d = c .before .before in
     let b = d .before .before .before in
     let p = b .before .before .before .before .args .self .at in
@@ -96,7 +96,7 @@ sign-extended-requires : tie.Need-sign-extended-requires
 sign-extended-requires c κs =
     let d = c .before in
     let t = d .before .before .before .before .before .before .before .before .before in
-    half-range _ _ _ (t .pre .1) (t .pre .2) (t .pre .3) (given (bits-give _ _ _ _) (raw-read d) .small)
+    half-range (t .pre) (given (bits-give _ _ _ _) (raw-read d) .small)
 
 of-requires : tie.Need-of-requires
 of-requires c κs = search needs
@@ -104,16 +104,20 @@ of-requires c κs = search needs
 beyond-requires : tie.Need-beyond-requires
 beyond-requires c κs = search needs
 
+fault-requires : tie.Need-fault-requires
+fault-requires c κs = search needs
+
 returns-4 : tie.Need-returns-4
 unfolding entry
-returns-4 c f =
-    let d = c .before .before .before .before .before in
+returns-4 c =
+    let v = c .before .before in
+    let d = v .before .before .before .before in
     let e = d .before .before .before in
-    simp (bit-read (e .before .before), ne-eqb _ 0 (e .if1 .left), raw-read d, tested (c .before) ∙ c .if2 .taken)
+    simp (bit-read (e .before .before), ne-eqb _ 0 (e .if1 .left), raw-read d, tested v ∙ c .before .if2 .taken, c .fault .ensures)
 
 returns-5 : tie.Need-returns-5
 unfolding entry
-returns-5 c f =
+returns-5 c =
     let d = c .before .before .before .before .before in
     let e = d .before .before .before in
     simp (bit-read (e .before .before), ne-eqb _ 0 (e .if1 .left), raw-read d, tested (c .before) ∙ c .if2 .left)
@@ -135,5 +139,6 @@ entry-spec =
     sign-extended-requires
     of-requires
     beyond-requires
+    fault-requires
     returns-4
     returns-5)

@@ -1,20 +1,21 @@
 -- The field is taken up, then byte after byte is stored.
-use Prim.Native.Nat.{_+_, _-_, _*_, _%_, _^_, _≤_}
+use Prim.Native.Nat.{_+_, _-_, _*_, _%_, _^_, _≤_, _<_}
 use native.Mathlib.Omega.{arith}
 use borrow.Author.Needs.{needs}
 use mathlib.Core.Path.{_≡_}
 use mathlib.Core.List.{[], append-nil}
 use lib.Pow.{pow-mono, pow-pos, shl-exact, shr-lt}
+use Rattle.model.specs.Sizes.{boundWidth}
 use Rattle.model.specs.Writing.{fieldBits}
-use Rattle.packer.specs.Ink.{Adds}
+use Rattle.packer.specs.Ink.{Extends}
 use Rattle.packer.proofs.Spelling.{power}
-use Rattle.packer.proofs.Inking.{taken, adds-nothing, adds-then, adds-field, adds-byte}
+use Rattle.packer.proofs.Inking.{taken, extends-nothing, extends-then, extends-field, extends-byte}
 use Rattle.packer.proofs.Pen.bits.Statement.{statement}
 use Rattle.packer.proofs.Pen.bits.Tie as tie
 
 abbrev Inv-loop : tie.InvT-loop
 Inv-loop out₀ width value full₀ held₀ part₀ out full held part =
-    (held ≤ 31) × Adds [] (record { full = full₀; held = held₀; part = part₀ }) out₀ (record { full = full; held = held; part = part }) out
+    (held < 8 + boundWidth) × Extends [] (record { full = full₀; held = held₀; part = part₀ }) out₀ (record { full = full; held = held; part = part }) out
 
 abbrev μ-loop : tie.MeasureT-loop
 μ-loop out₀ width value full₀ held₀ part₀ out full held part = held
@@ -22,14 +23,14 @@ abbrev μ-loop : tie.MeasureT-loop
 -- the held bits make room for the field, and none is lost
 moved : (c : tie.After-struct-known2 Inv-loop μ-loop) →
     let a = c .before .before .args in
-    a .self .part * 2 ^ a .width % 4294967296 ≡ a .self .part * 2 ^ a .width
+    a .self .part * 2 ^ a .width % 2 ^ 32 ≡ a .self .part * 2 ^ a .width
 moved c = let t = c .before .before in shl-exact (t .args .self .held) (t .args .width) 32 (t .pre .0 .small) (omega arith)
 
 -- the field behind the held bits
 field : (c : tie.Start Inv-loop μ-loop) →
     let a = c .args in
-    Adds (fieldBits (a .width) (a .value)) (a .self) (a .out .now) (taken (a .self) (a .width) (a .value)) (a .out .now)
-field c = let a = c .args in adds-field (a .self) (a .out .now) (a .width) (a .value) (c .pre .0 .small) (c .pre .2)
+    Extends (fieldBits (a .width) (a .value)) (a .self) (a .out .now) (taken (a .self) (a .width) (a .value)) (a .out .now)
+field c = let a = c .args in extends-field (a .self) (a .out .now) (a .width) (a .value) (c .pre .0 .small) (c .pre .2)
 
 add-held : tie.Need-add-held Inv-loop μ-loop
 add-held c = search needs
@@ -47,7 +48,7 @@ add-part c =
     rw (moved c) (record { fits = omega (arith, field t .small) })
 
 loop-holds : tie.Need-loop-holds Inv-loop μ-loop
-loop-holds c = rw (moved c) (omega arith, adds-nothing (field (c .before .before) .small))
+loop-holds c = rw (moved c) (omega arith, extends-nothing (field (c .before .before) .small))
 
 cast-out : tie.Need-cast-out Inv-loop μ-loop
 cast-out c = search needs
@@ -85,7 +86,7 @@ loop-less c = omega arith
 loop-again : tie.Need-loop-again Inv-loop μ-loop
 loop-again c =
     let l = c .before .loop in
-    rw (power (l .held - 8) (omega arith)) (omega arith, adds-then (l .inv .1) (adds-byte _ _ (l .held - 8) (parted c) (omega arith)))
+    rw (power (l .held - 8) (omega arith)) (omega arith, extends-then (l .inv .1) (extends-byte _ _ (l .held - 8) (parted c) (omega arith)))
 
 same-length : tie.Need-same-length Inv-loop μ-loop
 same-length c = c .before .loop .inv .1 .kept
@@ -94,7 +95,7 @@ returns : tie.Need-returns Inv-loop μ-loop
 returns c =
     let t = c .before .before .before .before in
     let i = rw (moved (c .before .before)) at (c .before .loop .inv .1) in
-    (rw append-nil at (adds-then (field t) i), omega arith)
+    (rw append-nil at (extends-then (field t) i), omega arith)
 
 pub bits-spec : {M : Type 1} → statement M
 bits-spec =

@@ -6,7 +6,7 @@ use mathlib.Core.List.{flatMap}
 use lib.ListN.{length, take}
 use Rattle.model.specs.Writing.{entriesBits}
 use Rattle.packer.specs.Ink.{Inks, ofWidth}
-use Rattle.packer.proofs.Inking.{adds-nothing, inks-then, ready-next}
+use Rattle.packer.proofs.Inking.{extends-nothing, inks-then}
 use Rattle.packer.proofs.Parts.{entries-next, entries-room, narrow-at}
 use Rattle.packer.proofs.Pen.entries.Statement.{statement}
 use Rattle.packer.proofs.Pen.entries.Tie as tie
@@ -19,7 +19,7 @@ abbrev μ-loop : tie.MeasureT-loop
 
 loop-holds : tie.Need-loop-holds Inv-loop μ-loop
 unfolding entriesBits flatMap
-loop-holds c = let r = c .before .pre .0 in (omega arith, (adds-nothing (r .small), r .few))
+loop-holds c = let r = c .before .pre .0 in (omega arith, (extends-nothing (r .small), r .few))
 
 mul-slot : tie.Need-mul-slot Inv-loop μ-loop
 mul-slot c = omega arith
@@ -37,7 +37,7 @@ entry-requires c κs =
     let l = u .before .loop in
     let s = u .before .before .before in
     let room = entries-room (ofWidth (s .args .width)) (s .args .t3) (l .i) (s .args .count) (index u) (u .loop-test .taken) in
-    (ready-next _ room (s .pre .0) (l .inv .1), s .pre .1, narrow-at (s .pre .2) (l .i) (u .loop-test .taken))
+    (omega (arith, room), s .pre .1, narrow-at (s .pre .2) (l .i) (u .loop-test .taken))
 
 add-i : tie.Need-add-i Inv-loop μ-loop
 add-i c = omega arith

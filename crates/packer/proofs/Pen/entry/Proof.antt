@@ -7,8 +7,9 @@ use mathlib.Core.Path.{_≡_, ap, _∙_}
 use mathlib.Core.Bool.{true, false}
 use lib.Pow.{pow-mono}
 use Rattle.model.specs.Writing.{rawOf}
-use Rattle.packer.proofs.Spelling.{power, field-length}
-use Rattle.packer.proofs.Inking.{ready-less, ready-next, inks-then}
+use Rattle.model.proofs.Spelled.{length-field}
+use Rattle.packer.proofs.Spelling.{power}
+use Rattle.packer.proofs.Inking.{inks-then}
 use Rattle.packer.proofs.Parts.{entry-present, entry-absent, present-length, absent-length, value-small, raw-small}
 use Rattle.packer.proofs.Pen.entry.Statement.{statement}
 use Rattle.packer.proofs.Pen.entry.Tie as tie
@@ -24,7 +25,7 @@ bits-requires : tie.Need-bits-requires
 bits-requires c κs =
     let t = c .before in
     let s = t .before .before .before in
-    (ready-less 1 (omega (arith, absent-length (s .args .width) (s .args .slot) (absent t))) (s .pre .0), omega arith, omega arith)
+    omega (arith, absent-length (s .args .width) (s .args .slot) (absent t))
 
 same-length : tie.Need-same-length
 same-length c = search needs
@@ -57,7 +58,7 @@ bits-requires-2 : tie.Need-bits-requires-2
 bits-requires-2 c κs =
     let e = c .before .before .before in
     let s = e .before .before .before in
-    (ready-less 1 (omega (arith, present-length (s .args .width) (s .args .slot) (there e))) (s .pre .0), omega arith, omega arith)
+    omega (arith, present-length (s .args .width) (s .args .slot) (there e))
 
 -- the number that was spelt
 spelt : (c : tie.After-raw) →
@@ -74,7 +75,7 @@ bits-requires-3 c κs =
     let e = r .before .before in
     let s = e .before .before .before in
     let w = s .args .width in (
-      ready-next w (omega (arith, present-length w (s .args .slot) (there e), field-length 1 1)) (s .pre .0) (b .bits2 .ensures),
+      omega (arith, present-length w (s .args .slot) (there e), length-field 1 1),
       omega arith,
       rw (spelt r) (raw-small w (s .args .slot) (s .pre .2) (there e) (s .pre .1 .some)),
     )

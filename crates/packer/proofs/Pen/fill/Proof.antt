@@ -1,8 +1,8 @@
--- The bits that are missing up to a whole byte, each 0.
+-- The bits that fill up a whole byte, each 0.
 use borrow.Author.Needs.{needs}
 use native.Mathlib.Omega.{arith}
 use lib.Pow.{pow-pos}
-use Rattle.packer.proofs.Inking.{missing, fills}
+use Rattle.packer.proofs.Inking.{unfilled, fills}
 use Rattle.packer.proofs.Pen.fill.Statement.{statement}
 use Rattle.packer.proofs.Pen.fill.Tie as tie
 
@@ -11,9 +11,7 @@ sub-bits c = search needs
 
 bits-requires : tie.Need-bits-requires
 bits-requires c κs =
-    let s = c .before .before in
-    let r = s .pre in
-    (record { few = r .few; small = r .small; room = omega arith }, omega arith, pow-pos (missing (s .args .self .held)))
+    omega (arith, pow-pos (unfilled (c .before .before .args .self .held)))
 
 same-length : tie.Need-same-length
 same-length c = search needs

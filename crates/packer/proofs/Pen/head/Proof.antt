@@ -1,8 +1,9 @@
 -- One field behind the other.
 use borrow.Author.Needs.{needs}
 use native.Mathlib.Omega.{arith}
-use Rattle.packer.proofs.Spelling.{field-length}
-use Rattle.packer.proofs.Inking.{inks-then, ready-next}
+use Rattle.model.specs.Sizes.{departuresWidth}
+use Rattle.model.proofs.Spelled.{length-field}
+use Rattle.packer.proofs.Inking.{inks-then}
 use Rattle.packer.proofs.Pen.head.Statement.{statement}
 use Rattle.packer.proofs.Pen.head.Tie as tie
 
@@ -22,7 +23,7 @@ bits-requires-2 : tie.Need-bits-requires-2
 bits-requires-2 c κs =
     let b = c .before .before .before .before in
     let s = b .before .before .before in
-    (ready-next 6 (omega (arith, field-length 3 (s .args .n))) (s .pre .0) (b .bits .ensures), omega arith, omega arith)
+    omega (arith, length-field departuresWidth (s .args .n))
 
 same-length : tie.Need-same-length
 same-length c = search needs

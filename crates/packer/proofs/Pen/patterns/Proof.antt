@@ -2,9 +2,10 @@
 use borrow.Author.Needs.{needs}
 use native.Mathlib.Omega.{arith}
 use lib.ListN.{take, length-append}
+use Rattle.model.specs.Sizes.{boundWidth}
 use Rattle.model.specs.Writing.{entriesBits}
 use Rattle.packer.specs.Ink.{ofWidth}
-use Rattle.packer.proofs.Inking.{inks-then, ready-less, ready-next}
+use Rattle.packer.proofs.Inking.{inks-then}
 use Rattle.packer.proofs.Pen.patterns.Statement.{statement}
 use Rattle.packer.proofs.Pen.patterns.Tie as tie
 
@@ -12,16 +13,16 @@ entries-requires : tie.Need-entries-requires
 entries-requires c κs =
     let s = c .before .before in
     let a = s .args in
-    let long = length-append (entriesBits (ofWidth 21) (take (a .size) (a .start))) (entriesBits (ofWidth 21) (take (a .size) (a .target))) in
-    (ready-less _ (omega (arith, long)) (s .pre .0), omega arith, s .pre .1)
+    let long = length-append (entriesBits (ofWidth boundWidth) (take (a .size) (a .start))) (entriesBits (ofWidth boundWidth) (take (a .size) (a .target))) in
+    (omega (arith, long), omega arith, s .pre .1)
 
 entries-requires-2 : tie.Need-entries-requires-2
 entries-requires-2 c κs =
     let b = c .before .before .before in
     let s = b .before .before .before in
     let a = s .args in
-    let long = length-append (entriesBits (ofWidth 21) (take (a .size) (a .start))) (entriesBits (ofWidth 21) (take (a .size) (a .target))) in
-    (ready-next _ (omega (arith, long)) (s .pre .0) (b .entries .ensures), omega arith, s .pre .2)
+    let long = length-append (entriesBits (ofWidth boundWidth) (take (a .size) (a .start))) (entriesBits (ofWidth boundWidth) (take (a .size) (a .target))) in
+    (omega (arith, long), omega arith, s .pre .2)
 
 same-length : tie.Need-same-length
 same-length c = search needs

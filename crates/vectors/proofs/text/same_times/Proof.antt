@@ -1,41 +1,15 @@
--- One time of each at each turn, up to seven.
+-- One time of each at each turn.
 use borrow.Author.Needs.{needs}
 use Prim.Native.Nat.{_-_, _≤_}
+use Rattle.model.specs.Sizes.{mostDepartures}
 use Rattle.vectors.proofs.text.same_times.Statement.{statement}
 use Rattle.vectors.proofs.text.same_times.Tie as tie
 
 abbrev Inv-loop : tie.InvT-loop
-Inv-loop a b same₀ i₀ same i = i ≤ 7
+Inv-loop a b same₀ i₀ same i = i ≤ mostDepartures
 
 abbrev μ-loop : tie.MeasureT-loop
-μ-loop a b same₀ i₀ same i = 7 - i
-
-loop-holds : tie.Need-loop-holds Inv-loop μ-loop
-loop-holds c = search needs
-
-mul-x : tie.Need-mul-x Inv-loop μ-loop
-mul-x c = search needs
-
-array-copy-out-x : tie.Need-array-copy-out-x Inv-loop μ-loop
-array-copy-out-x c = search needs
-
-mul-y : tie.Need-mul-y Inv-loop μ-loop
-mul-y c = search needs
-
-array-copy-out-y : tie.Need-array-copy-out-y Inv-loop μ-loop
-array-copy-out-y c = search needs
-
-add-i : tie.Need-add-i Inv-loop μ-loop
-add-i c = search needs
-
-loop-less : tie.Need-loop-less Inv-loop μ-loop
-loop-less c = search needs
-
-loop-again : tie.Need-loop-again Inv-loop μ-loop
-loop-again c = search needs
-
-returns : tie.Need-returns Inv-loop μ-loop
-returns c = search needs
+μ-loop a b same₀ i₀ same i = mostDepartures - i
 
 pub same-times-spec : {M : Type 1} → statement M
 same-times-spec =
@@ -43,12 +17,12 @@ same-times-spec =
     (tie.spec
     Inv-loop
     μ-loop
-    loop-holds
-    mul-x
-    array-copy-out-x
-    mul-y
-    array-copy-out-y
-    add-i
-    loop-less
-    loop-again
-    returns)
+    (λ c. search needs)
+    (λ c. search needs)
+    (λ c. search needs)
+    (λ c. search needs)
+    (λ c. search needs)
+    (λ c. search needs)
+    (λ c. search needs)
+    (λ c. search needs)
+    (λ c. search needs))

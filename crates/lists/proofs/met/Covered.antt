@@ -1,0 +1,103 @@
+-- A set met before adds nothing: all that further rows make of it is in the list already.
+use Prim.Native.Nat.{ℕ, suc, _-_}
+use mathlib.Core.Path.{_≡_, refl, ap, _∙_}
+use mathlib.Core.Logic.{⊎-elim}
+use mathlib.Core.Bool.{true}
+use mathlib.Core.List.{List, [], _∷_, map, foldl}
+use mathlib.Core.Option.{Option, none, some}
+use lib.IntN.{ℤ}
+use lib.ListN.{getD}
+use Rattle.model.specs.Sizes.{zoneSize}
+use Rattle.model.specs.Lists.{anyOf, Every, done, both, Some, here, there}
+use Rattle.model.specs.Matrix.{Matrix, sameMatrix}
+use Rattle.model.specs.Network.{Time}
+use Rattle.model.specs.Search.{keep}
+use Rattle.model.specs.Conditions.{Before}
+use Rattle.model.proofs.Listed.{every-map, every-tabulate, some-at, every-some}
+use Rattle.model.proofs.Zones.{Is}
+use Rattle.model.proofs.Same.{sameMatrix-true}
+use Rattle.model.proofs.Kept.{Put, empty, there-already, new, keep-is, kept-old, of-kept, anyOf-true}
+use Rattle.model.proofs.Selections.{selections-sound}
+use Rattle.model.proofs.Images.{same-left}
+use Rattle.memory.specs.Numbers.{boundsIn, timesIn}
+use Rattle.lists.specs.Selecting.{extensions}
+use Rattle.lists.specs.Met.{metIn, unmet, Noting, Old, Covered, Noted}
+use Rattle.lists.proofs.Extensions.{extensions-none}
+use Rattle.lists.proofs.met.Seen.{unmet-none}
+
+-- ---- what is in a list and put to it again
+not-both : {X : Type 0} {P : X → Type 0} {xs : List X} → Every (λ x. P x → ⊥) xs → Some P xs → ⊥
+not-both (both h hs) (here p) = h p
+not-both (both h hs) (there q) = not-both hs q
+
+put-same : {kept kept′ : List Matrix} {o : Option Matrix} → Put kept o kept′ → Old kept o → kept′ ≡ kept
+put-same empty h = refl
+put-same (there-already q) h = refl
+put-same (new {z} q) h = absurd (not-both q (h z refl))
+
+put-again : {kept : List Matrix} {os : List (Option Matrix)} → Every (Old kept) os → foldl keep kept os ≡ kept
+put-again done = refl
+put-again {kept} (both {x = o} {xs = os} h hs) = ap (λ (zs : List Matrix). foldl keep zs os) (put-same (keep-is kept o) h) ∙ put-again hs
+
+is-at : {o : Option Matrix} {z : Matrix} → o ≡ some z → Is (λ y. y ≡ z) o
+is-at e = rw e refl
+
+put-old : (kept : List Matrix) (os : List (Option Matrix)) → Every (Old (foldl keep kept os)) os
+put-old kept [] = done
+put-old kept (o ∷ os) = both (λ z e. of-kept kept {os = o ∷ os} (here (is-at e))) (put-old (keep kept o) os)
+
+-- ---- what further rows make of a set
+map-every-same : {X Y : Type 0} (f g : X → Y) {xs : List X} → Every (λ x. f x ≡ g x) xs → map f xs ≡ map g xs
+map-every-same f g done = refl
+map-every-same f g (both h hs) = rw (h, map-every-same f g hs)
+
+module _ (n : ℕ) (a : List Time) (d : Matrix) {p : Matrix} {i : ℕ} where
+  -- the columns in the rows before do not matter
+  same-extensions : {cols cols′ : List ℕ} → Before n a p cols i → Before n a p cols′ i → (r : ℕ)
+      → extensions n a d (some p) cols i r ≡ extensions n a d (some p) cols′ i r
+  unfolding extensions
+  same-extensions b b′ r = map-every-same _ _ (every-map (λ rest q. same-left n a d b b′ q) (selections-sound n a r i))
+
+  -- where all of it was put to the list, it is covered
+  pub covered-new : (kept : List Matrix) {cols : List ℕ} → Before n a p cols i
+      → Covered n a d (foldl keep kept (extensions n a d (some p) cols i (suc n - i))) i p
+  covered-new kept {cols} b = record { cols = cols; before = b; listed = put-old kept (extensions n a d (some p) cols i (suc n - i)) }
+
+  -- and put to it again it adds nothing
+  covered-again : {kept : List Matrix} {cols : List ℕ} → Covered n a d kept i p → Before n a p cols i
+      → foldl keep kept (extensions n a d (some p) cols i (suc n - i)) ≡ kept
+  covered-again c b = rw (same-extensions b (c .before) (suc n - i)) (put-again (c .listed))
+
+module _ {n : ℕ} {times zone : List ℤ} {kept : List Matrix} {seen : List ℤ} {counts : List ℕ} (w : Noted n times zone kept seen counts) where
+  -- the list grows
+  pub noted-on : (os : List (Option Matrix)) → Noted n times zone (foldl keep kept os) seen counts
+  noted-on os = record {
+    tables = w .tables;
+    covered = λ i c h.
+        let v = w .covered i c h in
+        record { cols = v .cols; before = v .before; listed = every-map (λ o old z e. kept-old kept os (old z e)) (v .listed) };
+  }
+
+  -- one set more is noted
+  pub noted-more : {i : ℕ} {p : Matrix} {seen′ : List ℤ} {counts′ : List ℕ} → Noting (zoneSize n) i p seen seen′ counts counts′
+      → Covered n (timesIn times) (boundsIn zone) kept (suc i) p → Noted n times zone kept seen′ counts′
+  noted-more m v = record {
+    tables = m .tables;
+    covered = λ j c h. ⊎-elim (λ k. rw (k .1) (w .covered j c (k .0))) (λ k. rw (k .1, k .0) v) (m .each j c h);
+  }
+
+  -- a set met is covered
+  noted-met : (i : ℕ) (p : Matrix) → anyOf (sameMatrix p) (metIn (zoneSize n) seen counts i) ≡ true → Covered n (timesIn times) (boundsIn zone) kept (suc i) p
+  noted-met i p e =
+      let all : Every (Covered n (timesIn times) (boundsIn zone) kept (suc i)) (metIn (zoneSize n) seen counts i)
+      = every-tabulate (getD counts i 0) _ _ (w .covered i) in
+      let (y, h, q) = some-at (every-some all (anyOf-true (sameMatrix p) _ e)) in
+      rw (sameMatrix-true p y (h .1)) (h .0)
+
+  -- nothing, or a set met before
+  pub nothing-new : (i : ℕ) (o : Option Matrix) (cols : List ℕ) → ((p : Matrix) → o ≡ some p → Before n (timesIn times) p cols (suc i))
+      → unmet (metIn (zoneSize n) seen counts i) o ≡ none → foldl keep kept (extensions n (timesIn times) (boundsIn zone) o cols (suc i) (suc n - suc i)) ≡ kept
+  nothing-new i o cols b e = ⊎-elim
+      (λ z. rw z (extensions-none n (timesIn times) (boundsIn zone) cols (suc i) (suc n - suc i) kept))
+      (λ z. rw (z .1) (covered-again n (timesIn times) (boundsIn zone) (noted-met i (z .0) (z .2)) (b (z .0) (z .1))))
+      (unmet-none _ _ e)

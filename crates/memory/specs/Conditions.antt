@@ -1,0 +1,76 @@
+-- What is asked and promised of those who read and store numbers.
+use Prim.Native.Nat.{ℕ, suc, _+_, _*_, _≤_, _<_}
+use mathlib.Core.Path.{_≡_}
+use mathlib.Core.List.{List, map}
+use lib.IntN.{ℤ, natAbs}
+use lib.ListN.{length, take}
+use Rattle.model.specs.declared.Slot.{Slot}
+use Rattle.model.specs.Sizes.{tableSize, patternSize, zoneSize, mostBounds, mostNumbers}
+use Rattle.model.specs.Bound.{Bound}
+use Rattle.model.specs.Network.{Time, secsOf}
+use Rattle.model.specs.Faults.{timeOf, boundOf}
+use Rattle.model.specs.Conditions.{Departures, Small}
+use Rattle.memory.specs.declared.Number.{Number}
+use Rattle.memory.specs.Numbers.{boundIn, timeIn, boundsIn, timesIn, asBound, asTime, InMemory}
+
+-- ---- a zone, the table and a pattern of n departures
+pub record ZoneIn (n : ℕ) (z : List ℤ) : Type 0 where
+  pub departures : Departures n
+  pub size : length z ≡ zoneSize n
+
+pub record TableIn (n : ℕ) (times : List ℤ) : Type 0 where
+  pub departures : Departures n
+  pub size : length times ≡ tableSize n
+
+pub record PatternIn (n : ℕ) (p : List ℤ) : Type 0 where
+  pub departures : Departures n
+  pub size : length p ≡ patternSize n
+
+-- ---- places
+-- r is the place of (i, j) in rows of m
+pub record PlaceOf (m i j r : ℕ) : Type 0 where
+  pub is : r ≡ i * m + j
+  pub below : (k : ℕ) → i < k → r < k * m
+  pub few : r < mostNumbers
+
+-- they have a place (i, j)
+pub record ZoneCell (n : ℕ) (z : List ℤ) (i j : ℕ) : Type 0 where
+  pub zone : ZoneIn n z
+  pub row : i < suc n
+  pub col : j < suc n
+
+pub record TimeCell (n : ℕ) (times : List ℤ) (i j : ℕ) : Type 0 where
+  pub table : TableIn n times
+  pub row-from : 1 ≤ i
+  pub row-to : i ≤ n
+  pub col-from : 1 ≤ j
+  pub col-to : j ≤ n
+
+pub record PairCell (n : ℕ) (p : List ℤ) (i j : ℕ) : Type 0 where
+  pub pattern : PatternIn n p
+  pub row : i < suc n
+  pub col : j < suc n
+
+-- ---- numbers that were read
+pub record BoundRead (b : Bound) (r : Number) : Type 0 where
+  pub is : asBound r ≡ b
+  pub small : Small InMemory (asBound r)
+
+pub record TimeRead (t : Time) (r : Number) : Type 0 where
+  pub is : asTime r ≡ t
+  pub small : natAbs (secsOf (asTime r)) ≤ InMemory
+
+pub record ReadAs (z : ℤ) (r : Number) : Type 0 where
+  pub bound : BoundRead (boundIn z) r
+  pub time : TimeRead (timeIn z) r
+
+-- ---- entries of a case
+pub record NumberOf (e : Slot) (r : Number) : Type 0 where
+  pub bound : asBound r ≡ boundOf e
+  pub time : asTime r ≡ timeOf e
+
+-- the first entries as numbers
+pub record NumbersIn (count : ℕ) (slots : List Slot) (numbers : List ℤ) : Type 0 where
+  pub bounds : boundsIn (take count numbers) ≡ map boundOf (take count slots)
+  pub times : timesIn (take count numbers) ≡ map timeOf (take count slots)
+  pub size : length numbers ≡ mostBounds
