@@ -1,23 +1,27 @@
 //! Runs the benchmark:
 //!
-//!     bench                      all families, dropping, packing, and z3
-//!     bench WORD...              families whose names have one of the words
-//!     bench dropping             what dropping equal sets saves
-//!     bench packing              writing and reading packed cases
-//!     bench z3                   the comparison with z3
-//!     bench slowest SEED STEPS   a search for a slow case
-//!     bench case HEX             one packed case
+//!     bench                        all families, dropping, packing, and z3
+//!     bench WORD...                families whose names have one of the words
+//!     bench dropping               what dropping equal sets saves
+//!     bench packing                writing and reading packed cases
+//!     bench z3                     the comparison with z3
+//!     bench compare BEFORE WORD... another build of this program and this one
+//!     bench copying WORD...        which of the library's instructions copy
+//!     bench slowest SEED STEPS     a search for a slow case
+//!     bench case HEX               one packed case
+//!
+//! `bench turns` and `bench once` are what compare and copying start.
 
 use bench::families::{self, Family};
-use bench::{dropping, packing, slowest, table, z3};
+use bench::{compare, copying, dropping, packing, slowest, table, z3};
 use std::env;
 use std::process::ExitCode;
 
-/// The families whose names have one of the words.
+/// The families whose names have one of the words, or all without any.
 fn chosen(words: &[&str]) -> Vec<Family> {
     let mut families = families::all();
     let named = |name: &str| words.iter().any(|word| name.contains(word));
-    families.retain(|family| named(&family.name));
+    families.retain(|family| words.is_empty() || named(&family.name));
     families
 }
 
@@ -25,6 +29,13 @@ fn run(words: &[&str]) -> Result<(), String> {
     let solver = || z3::print().map_err(|error| format!("the comparison with z3: {error}"));
     match words {
         ["slowest", seed, steps] => slowest::search(seed, steps),
+        ["compare", before, words @ ..] => compare::print(before, &chosen(words))
+            .map_err(|error| format!("the comparison of two builds: {error}")),
+        ["copying", words @ ..] => {
+            copying::print(&chosen(words)).map_err(|error| format!("counting what copies: {error}"))
+        }
+        ["once"] => copying::once(),
+        ["turns"] => compare::turns(),
         ["case", hex] => slowest::one(hex),
         ["z3"] => solver(),
         ["dropping"] => {

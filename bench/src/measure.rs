@@ -82,16 +82,24 @@ impl<'a> Timed<'a> {
     }
 }
 
+/// The library on a case, with memory lent to it.
+pub fn library(case: &Case) -> impl FnMut() -> Option<Answer> + '_ {
+    let entries = case.entries();
+    let mut work = vec![0; 2 * CAPACITY * (case.n + 1) * (case.n + 1)];
+    move || archive::verdict_entries(case.n, case.horizon, &entries, CAPACITY, &mut work).ok()
+}
+
+/// The product's algorithm in plain Rust on a case.
+pub fn plain(case: &Case) -> impl FnMut() -> Option<Answer> + '_ {
+    || Some(rows::verdict(case, CAPACITY).0)
+}
+
 /// Measures a case. All versions must give the same answer; the run ends where
 /// they do not.
 pub fn measure(case: &Case, limit: u64) -> Measured {
-    let entries = case.entries();
-    let mut work = vec![0; 2 * CAPACITY * (case.n + 1) * (case.n + 1)];
-    let library =
-        || archive::verdict_entries(case.n, case.horizon, &entries, CAPACITY, &mut work).ok();
     let versions: [Version; 3] = [
-        Box::new(library),
-        Box::new(|| Some(rows::verdict(case, CAPACITY).0)),
+        Box::new(library(case)),
+        Box::new(plain(case)),
         Box::new(|| one_by_one::verdict(case, CAPACITY, limit)),
     ];
     let mut timed = versions.map(Timed::new);

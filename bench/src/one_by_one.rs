@@ -4,7 +4,7 @@
 use crate::for_size;
 use crate::network::Table;
 use crate::search::{search, Kept, Lister, Stop};
-use crate::zone::Zone;
+use crate::zone::{Empty, Zone};
 use evidence::archive::Answer;
 use evidence::case::Case;
 
@@ -32,27 +32,24 @@ fn next<const M: usize>(table: &Table<M>, mut columns: [usize; M]) -> Option<[us
     None
 }
 
-/// The set of a selection, if it is not empty.
-fn set_of<const M: usize>(
+/// Brings the set of all times down to that of a selection.
+fn constrain<const M: usize>(
     table: &Table<M>,
     zone: &Zone<M>,
     columns: &[usize; M],
-) -> Option<Zone<M>> {
-    let mut set = Zone::everything();
-    for row in 1..M {
-        table.add_row(&mut set, zone, columns, row, &mut 0).ok()?;
-    }
-    Some(set)
+    set: &mut Zone<M>,
+) -> Result<(), Empty> {
+    (1..M).try_for_each(|row| table.add_row(set, zone, columns, row, &mut 0))
 }
 
 impl<const M: usize> Lister<M> for OneByOne {
     fn before(&mut self, table: &Table<M>, zone: &Zone<M>, kept: &mut Kept<M>) -> Result<(), Stop> {
+        let all_times = Zone::everything();
         let mut selection = Some(first(table));
         while let Some(columns) = selection {
             self.left = self.left.checked_sub(1).ok_or(Stop::Steps)?;
-            if let Some(set) = set_of(table, zone, &columns) {
-                kept.keep(&set)?;
-            }
+            let built = constrain(table, zone, &columns, kept.zones.add(&all_times));
+            kept.keep(built)?;
             selection = next(table, columns);
         }
         Ok(())

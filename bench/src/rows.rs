@@ -1,11 +1,13 @@
 //! Rows one by one: the product's algorithm in plain Rust, unverified. A set
 //! that is empty after some rows ends all selections that begin so, and one
-//! that was met before at the same row is dropped.
+//! that was met before at the same row is dropped. Each set is built where it
+//! stays; what is copied is the set of the row before, to that place.
 
 use crate::for_size;
 use crate::network::Table;
 use crate::search::{search, Kept, Lister, Stop};
-use crate::zone::Zone;
+use crate::sets::Sets;
+use crate::zone::{Empty, Zone};
 use evidence::archive::Answer;
 use evidence::case::Case;
 
@@ -25,79 +27,97 @@ pub struct Cost {
     pub forgotten: u64,
 }
 
-/// The sets met at each row for the present zone, and the columns so far.
+/// The sets met at each row but the last, for the present zone.
 struct Rows<const M: usize> {
-    met: [Vec<Zone<M>>; M],
+    met: Vec<Sets<M>>,
     remembered: usize,
-    columns: [usize; M],
     cost: Cost,
 }
 
-/// What stays the same while the rows for one zone are taken.
+/// What the rows for one zone share.
 struct Task<'a, const M: usize> {
     table: &'a Table<M>,
     zone: &'a Zone<M>,
-    kept: &'a mut Kept<M>,
+    columns: [usize; M],
+    remembered: usize,
+    cost: &'a mut Cost,
 }
 
-impl<const M: usize> Rows<M> {
-    /// Whether the set was met before at this row; if not, it now is. The last
-    /// ones are looked at first, as in the library.
-    fn met_before(&mut self, row: usize, set: &Zone<M>) -> bool {
-        let met = &mut self.met[row];
-        let found = met.iter().rev().position(|other| other == set);
-        self.cost.compared += found.map_or(met.len(), |place| place + 1) as u64;
-        if found.is_some() {
-            return true;
-        }
-        if met.len() < self.remembered {
-            met.push(*set);
-        } else {
-            self.cost.forgotten += 1;
-        }
-        false
+impl<const M: usize> Task<'_, M> {
+    /// Adds this row with a column to a set.
+    fn add_row(&mut self, set: &mut Zone<M>, row: usize, column: usize) -> Result<(), Empty> {
+        self.columns[row] = column;
+        let changes = &mut self.cost.changes;
+        self.table
+            .add_row(set, self.zone, &self.columns, row, changes)
     }
 
-    /// All selections from this row on, given what the rows before left.
-    fn rows_from(&mut self, task: &mut Task<M>, row: usize, set: &Zone<M>) -> Result<(), Stop> {
-        if row == M {
-            self.cost.selections += 1;
-            return task.kept.keep(set);
-        }
-        for column in task.table.columns(row) {
-            let mut next = *set;
-            self.columns[row] = column;
-            let changes = &mut self.cost.changes;
-            let added = task
-                .table
-                .add_row(&mut next, task.zone, &self.columns, row, changes);
-            // The last row's sets are compared with all kept anyway.
-            if added.is_err() || (row + 1 < M && self.met_before(row, &next)) {
-                continue;
+    /// All selections from this row on, given what the rows before left: each
+    /// set is built out of that in the next free place of its row's table. `met`
+    /// has the tables from this row on.
+    fn rows_from(
+        &mut self,
+        met: &mut [Sets<M>],
+        kept: &mut Kept<M>,
+        row: usize,
+        set: &Zone<M>,
+    ) -> Result<(), Stop> {
+        let Some((here, later)) = met.split_first_mut() else {
+            return self.last_row(kept, row, set);
+        };
+        for column in self.table.columns(row) {
+            let built = self.add_row(here.add(set), row, column);
+            if here.settle(built) {
+                self.rows_from(later, kept, row + 1, here.last())?;
+                self.remember(here);
             }
-            self.rows_from(task, row + 1, &next)?;
         }
         Ok(())
+    }
+
+    /// The last row's sets, each built at the place of the list's next zone.
+    fn last_row(&mut self, kept: &mut Kept<M>, row: usize, set: &Zone<M>) -> Result<(), Stop> {
+        for column in self.table.columns(row) {
+            let built = self.add_row(kept.zones.add(set), row, column);
+            self.cost.selections += u64::from(built.is_ok());
+            kept.keep(built)?;
+        }
+        Ok(())
+    }
+
+    /// Remembers the last set of a table, if there is room.
+    fn remember(&mut self, met: &mut Sets<M>) {
+        if met.all().len() > self.remembered {
+            met.drop_last();
+            self.cost.forgotten += 1;
+        }
     }
 }
 
 impl<const M: usize> Lister<M> for Rows<M> {
     fn before(&mut self, table: &Table<M>, zone: &Zone<M>, kept: &mut Kept<M>) -> Result<(), Stop> {
-        self.met.iter_mut().for_each(Vec::clear);
-        let mut task = Task { table, zone, kept };
-        self.rows_from(&mut task, 1, &Zone::everything())
+        self.met.iter_mut().for_each(Sets::clear);
+        let mut task = Task {
+            table,
+            zone,
+            columns: [0; M],
+            remembered: self.remembered,
+            cost: &mut self.cost,
+        };
+        task.rows_from(&mut self.met, kept, 1, &Zone::everything())
     }
 }
 
+/// One place more for each row than sets are remembered.
 fn sized<const M: usize>(case: &Case, capacity: usize, remembered: usize) -> (Answer, Cost) {
     let mut rows: Rows<M> = Rows {
-        met: std::array::from_fn(|_| Vec::with_capacity(remembered)),
+        met: (2..M).map(|_| Sets::new(remembered + 1)).collect(),
         remembered,
-        columns: [0; M],
         cost: Cost::default(),
     };
     let (answer, compared) = search(case, capacity, &mut rows).expect("no limit on steps");
-    rows.cost.compared += compared;
+    let met: u64 = rows.met.iter().map(|sets| sets.compared).sum();
+    rows.cost.compared = met + compared;
     (answer, rows.cost)
 }
 

@@ -2,7 +2,8 @@
 //! made. M is n + 1.
 
 use crate::network::Table;
-use crate::zone::Zone;
+use crate::sets::Sets;
+use crate::zone::{Empty, Zone};
 use evidence::archive::{Answer, Fault, Verdict};
 use evidence::case::{pair, Case, Pattern};
 use evidence::selections::only_differences;
@@ -33,27 +34,28 @@ pub enum Stop {
     Steps,
 }
 
-/// A list that is being made: its zones differ from each other.
+/// A list that is being made. It has one place more than zones, where a set is
+/// built for which the list has no room.
 pub struct Kept<const M: usize> {
-    zones: Vec<Zone<M>>,
+    pub zones: Sets<M>,
     capacity: usize,
-    /// How many comparisons of two sets were made.
-    pub compared: u64,
 }
 
 impl<const M: usize> Kept<M> {
-    /// Keeps a set that differs from all kept.
-    pub fn keep(&mut self, set: &Zone<M>) -> Result<(), Stop> {
-        let found = self.zones.iter().rev().position(|other| other == set);
-        self.compared += found.map_or(self.zones.len(), |place| place + 1) as u64;
-        if found.is_some() {
-            return Ok(());
+    fn new(capacity: usize) -> Kept<M> {
+        Kept {
+            zones: Sets::new(capacity + 1),
+            capacity,
         }
-        if self.zones.len() == self.capacity {
-            return Err(Stop::Full);
+    }
+
+    /// Keeps the last set if it is not empty and differs from all kept.
+    pub fn keep(&mut self, built: Result<(), Empty>) -> Result<(), Stop> {
+        let kept = self.zones.settle(built);
+        match kept && self.zones.all().len() > self.capacity {
+            true => Err(Stop::Full),
+            false => Ok(()),
         }
-        self.zones.push(*set);
-        Ok(())
     }
 }
 
@@ -105,9 +107,13 @@ fn decided<const M: usize>(
     if list.iter().any(Zone::too_large) {
         return Some(refused(12, k));
     }
-    let common = list.iter().find_map(|zone| zone.common(start))?;
+    let picked = |zone: &Zone<M>| {
+        let mut common = *zone;
+        common.meet(start).ok()?;
+        Some(common.pick().expect("a set that is not empty"))
+    };
+    let start = list.iter().find_map(picked)?;
     let verdict = Verdict::Reached { cycle: k };
-    let start = common.pick().expect("a set that is not empty");
     Some(Answer { verdict, start })
 }
 
@@ -121,26 +127,24 @@ pub fn search<const M: usize>(
     let table = Table::new(case);
     let start = stated(case.n, &case.start);
     let (last, otherwise) = searched(case, &table);
-    let target = Zone::everything().common(&stated(case.n, &case.target));
-    let mut list: Vec<Zone<M>> = target.into_iter().collect();
-    let mut kept = Kept {
-        zones: Vec::with_capacity(capacity),
-        capacity,
-        compared: 0,
-    };
+    let target = stated(case.n, &case.target);
+    let [mut list, mut next] = [Kept::new(capacity), Kept::new(capacity)];
+    let built = list.zones.add(&Zone::everything()).meet(&target);
+    list.zones.settle(built);
+    let mut answer = None;
     for k in 1..=last {
-        let made = list
-            .iter()
-            .try_for_each(|zone| lister.before(&table, zone, &mut kept));
-        match made {
-            Err(Stop::Full) => return Some((refused(11, k), kept.compared)),
+        let mut zones = list.zones.all().iter();
+        answer = match zones.try_for_each(|zone| lister.before(&table, zone, &mut next)) {
+            Err(Stop::Full) => Some(refused(11, k)),
             Err(Stop::Steps) => return None,
-            Ok(()) => std::mem::swap(&mut list, &mut kept.zones),
+            Ok(()) => decided(next.zones.all(), &start, k),
+        };
+        if answer.is_some() {
+            break;
         }
-        kept.zones.clear();
-        if let Some(answer) = decided(&list, &start, k) {
-            return Some((answer, kept.compared));
-        }
+        std::mem::swap(&mut list, &mut next);
+        next.zones.clear();
     }
-    Some((without_start(otherwise), kept.compared))
+    let compared = list.zones.compared + next.zones.compared;
+    Some((answer.unwrap_or(without_start(otherwise)), compared))
 }

@@ -5,9 +5,8 @@
 use crate::measure::measure;
 use crate::rows::{self, Cost};
 use crate::table::words;
-use crate::{hex, CAPACITY};
+use crate::{hex, of_hex, CAPACITY};
 use evidence::case::{pair, Case, Pattern};
-use evidence::faults;
 use evidence::random::Random;
 
 const N: usize = 7;
@@ -184,18 +183,8 @@ pub fn search(seed: &str, steps: &str) -> Result<(), String> {
     Ok(())
 }
 
-/// The case of hexadecimal digits.
-fn read(digits: &str) -> Result<Case, String> {
-    let pairs = digits.as_bytes().chunks(2);
-    let bytes: Option<Vec<u8>> = pairs
-        .map(|pair| u8::from_str_radix(std::str::from_utf8(pair).ok()?, 16).ok())
-        .collect();
-    let bytes = bytes.ok_or("not hexadecimal digits")?;
-    faults::of_packed(&bytes).map_err(|fault| format!("refused: {fault:?}"))
-}
-
 /// Prints one packed case, given in hexadecimal digits.
 pub fn one(digits: &str) -> Result<(), String> {
-    print(&read(digits)?);
+    print(&of_hex(digits)?);
     Ok(())
 }

@@ -67,7 +67,8 @@ fn some(measured: &[Measured]) -> String {
     }
 }
 
-fn ratio(ratio: f64) -> String {
+/// A ratio in two digits after the point.
+pub fn ratio(ratio: f64) -> String {
     format!("{ratio:.2}")
 }
 

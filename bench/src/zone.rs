@@ -48,6 +48,10 @@ impl<const M: usize> Zone<M> {
         let rest = self.0[b];
         for row in self.0.iter_mut().filter(|row| row[a] != NONE) {
             let way = row[a] + c;
+            // The row changes nowhere if it does not change here: all bounds are tightest.
+            if row[b] <= way {
+                continue;
+            }
             for (most, &rest) in row.iter_mut().zip(&rest) {
                 if rest != NONE {
                     *most = (*most).min(way + rest);
@@ -57,13 +61,12 @@ impl<const M: usize> Zone<M> {
         Ok(true)
     }
 
-    /// What the set has in common with the bounds of a pattern.
-    pub fn common(&self, pattern: &[(usize, usize, i32)]) -> Option<Zone<M>> {
-        let mut set = *self;
+    /// The bounds of a pattern too, in place.
+    pub fn meet(&mut self, pattern: &[(usize, usize, i32)]) -> Result<(), Empty> {
         for &(i, j, bound) in pattern {
-            set.constrain(i, j, bound).ok()?;
+            self.constrain(i, j, bound)?;
         }
-        Some(set)
+        Ok(())
     }
 
     /// Whether a finite bound is beyond 2,000,000,000 in size.
@@ -74,9 +77,9 @@ impl<const M: usize> Zone<M> {
         })
     }
 
-    /// The start picked: for each departure in turn the least time; if there
-    /// is no least, the greatest; if neither, 0.
-    pub fn pick(mut self) -> Result<[i64; 7], Empty> {
+    /// The start picked, and the set brought down to it: for each departure in
+    /// turn the least time; if there is no least, the greatest; if neither, 0.
+    pub fn pick(&mut self) -> Result<[i64; 7], Empty> {
         let mut times = [0; 7];
         for i in 1..M {
             let time = match (self.bound(0, i), self.bound(i, 0)) {

@@ -4,12 +4,13 @@ use native.Mathlib.Omega.{arith}
 use native.Mathlib.Numerals.{add-one}
 use mathlib.Core.Path.{_≡_, refl, ap, fun-ext, _∙_}
 use mathlib.Core.List.{List, [], _∷_, _++_, map, map-append, map-map, flatMap, foldl, foldl-append}
-use mathlib.Core.Option.{Option, none}
+use mathlib.Core.Option.{Option, none, some}
 use Rattle.model.specs.Matrix.{Matrix, Constraint, constrain}
 use Rattle.model.specs.Network.{Time, isTime}
 use Rattle.model.specs.Search.{columns, selections, rowConstraints, rowsConstraints, keep}
 use Rattle.model.specs.Conditions.{Column}
 use Rattle.lists.specs.Selecting.{extensions, Passed}
+use Rattle.lists.specs.Inner.{columnSets}
 
 -- ---- no set is left of an empty one, and nothing is kept of it
 constrain-none : (m : ℕ) (ks : List Constraint) → foldl (constrain m) none ks ≡ none
@@ -55,23 +56,20 @@ module _ (n : ℕ) (a : List Time) (i : ℕ) where
 
 -- ---- the sets by the column of row i
 module _ (n : ℕ) (a : List Time) (d : Matrix) where
-  abbrev pub byColumn : Option Matrix → List ℕ → ℕ → ℕ → ℕ → List (Option Matrix)
-  byColumn part cols i r s = extensions n a d (foldl (constrain (suc n)) part (rowConstraints n a d cols i s)) (cols ++ (s ∷ [])) (suc i) r
-
-  pub by-columns : (part : Option Matrix) (cols : List ℕ) (i : ℕ) → i ≤ n
-      → extensions n a d part cols i (suc n - i) ≡ flatMap (byColumn part cols i (suc n - suc i)) (columnsFrom n a i 1)
-  unfolding extensions selections rowsConstraints
+  pub by-columns : (part : Matrix) (cols : List ℕ) (i : ℕ) → i ≤ n
+      → extensions n a d (some part) cols i (suc n - i) ≡ flatMap (columnSets n a d part cols i) (columnsFrom n a i 1)
+  unfolding extensions selections rowsConstraints columnSets
   by-columns part cols i h =
       let below = suc n - suc i in
       let r : suc n - i ≡ suc below = omega arith in
       let w : n ≡ suc n - 1 = omega arith in
-      rw r (map-flatMap (λ rest. foldl (constrain (suc n)) part (rowsConstraints n a d cols i rest))
+      rw r (map-flatMap (λ rest. foldl (constrain (suc n)) (some part) (rowsConstraints n a d cols i rest))
       (λ j. map (λ s. j ∷ s) (selections n a below (suc i))) (columns n a i n 1)
       ∙ ap (λ f. flatMap f (columns n a i n 1)) (fun-ext (λ s.
       map-map _ (λ rest. s ∷ rest) (selections n a below (suc i))
       ∙ ap (λ f. map f (selections n a below (suc i)))
-      (fun-ext (λ rest. foldl-append (constrain (suc n)) part (rowConstraints n a d cols i s) (rowsConstraints n a d (cols ++ (s ∷ [])) (suc i) rest)))))
-      ∙ ap (λ (t : ℕ). flatMap (byColumn part cols i below) (columns n a i t 1)) w)
+      (fun-ext (λ rest. foldl-append (constrain (suc n)) (some part) (rowConstraints n a d cols i s) (rowsConstraints n a d (cols ++ (s ∷ [])) (suc i) rest)))))
+      ∙ ap (λ (t : ℕ). flatMap (columnSets n a d part cols i) (columns n a i t 1)) w)
 
   -- all rows picked
   pub extensions-end : (part : Option Matrix) (cols : List ℕ) (i : ℕ) → n < i → extensions n a d part cols i (suc n - i) ≡ part ∷ []

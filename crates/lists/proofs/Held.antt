@@ -1,12 +1,12 @@
--- How a list that is handed back ends; one set put to it: it is there already, there is no room, or it is stored behind the others.
+-- How a list that is handed back ends; one set put to it: it is there already, there is no room, or it goes behind the others.
 use Prim.Native.Nat.{ℕ, _+_, _*_, _≤_, _<_}
 use native.Mathlib.Omega.{arith}
 use native.Mathlib.Decide.{decLt}
 use native.Mathlib.Nat.{mul-le-mul-right, suc-mul}
 use mathlib.Core.Path.{_≡_, refl, sym, ap, _∙_}
-use mathlib.Core.Bool.{true, false}
+use mathlib.Core.Bool.{Bool, true, false, cond}
 use mathlib.Core.List.{List, [], _∷_, _++_, foldl, append-nil, append-assoc}
-use mathlib.Core.Option.{Option, some}
+use mathlib.Core.Option.{Option, none, some}
 use lib.IntN.{ℤ}
 use lib.ListN.{length, take, drop, length-append}
 use lib.Seq.{take-append-le, take-at}
@@ -16,26 +16,29 @@ use Rattle.model.specs.Matrix.{Matrix, sameMatrix}
 use Rattle.model.specs.Search.{keep}
 use Rattle.model.proofs.Entries.{length-tabulate}
 use Rattle.model.proofs.Kept.{Put, empty, there-already, new, keep-is}
+use Rattle.zones.specs.Conditions.{Left, gone, kept}
 use Rattle.lists.specs.declared.Built.{Built}
-use Rattle.lists.specs.Lists.{zoneAt, listIn, ListRoom, ListHeld}
-use Rattle.lists.proofs.places.Zones.{Elsewhere, beyond-same, list-more}
+use Rattle.lists.specs.Lists.{numbersAt, zoneAt, listIn, ListRoom, ListHeld}
+use Rattle.lists.specs.Met.{unmet}
+use Rattle.lists.specs.Inner.{PlacedAt}
+use Rattle.lists.proofs.places.Zones.{beyond-same, list-same, list-more}
 
 length-listIn : (size count : ℕ) (work : List ℤ) → length (listIn size count work) ≡ count
 unfolding listIn
 length-listIn size count work = length-tabulate count 0 (zoneAt size work)
 
 -- ---- a list of kept zones keeps its front
-put-front : {kept kept′ : List Matrix} {o : Option Matrix} → Put kept o kept′ → (more : List Matrix) × (kept′ ≡ kept ++ more)
-put-front {kept} empty = ([], sym (append-nil kept))
-put-front {kept} (there-already q) = ([], sym (append-nil kept))
+put-front : {zs zs′ : List Matrix} {o : Option Matrix} → Put zs o zs′ → (more : List Matrix) × (zs′ ≡ zs ++ more)
+put-front {zs} empty = ([], sym (append-nil zs))
+put-front {zs} (there-already q) = ([], sym (append-nil zs))
 put-front (new {z} q) = (z ∷ [], refl)
 
-kept-front : (kept : List Matrix) (os : List (Option Matrix)) → (more : List Matrix) × (foldl keep kept os ≡ kept ++ more)
-kept-front kept [] = ([], sym (append-nil kept))
-kept-front kept (o ∷ os) =
-    let (more, e) = put-front (keep-is kept o) in
-    let (rest, f) = kept-front (keep kept o) os in
-    (more ++ rest, f ∙ ap (λ (l : List Matrix). l ++ rest) e ∙ append-assoc kept more rest)
+kept-front : (zs : List Matrix) (os : List (Option Matrix)) → (more : List Matrix) × (foldl keep zs os ≡ zs ++ more)
+kept-front zs [] = ([], sym (append-nil zs))
+kept-front zs (o ∷ os) =
+    let (more, e) = put-front (keep-is zs o) in
+    let (rest, f) = kept-front (keep zs o) os in
+    (more ++ rest, f ∙ ap (λ (l : List Matrix). l ++ rest) e ∙ append-assoc zs more rest)
 
 -- ---- how it ends
 module _ {size capacity : ℕ} {zs : List Matrix} {r : Built} {before after : List ℤ} (h : ListHeld size capacity zs r before after) where
@@ -78,6 +81,20 @@ module _ {size capacity : ℕ} {zs : List Matrix} {r : Built} {before after : Li
   pub held-since : {first : List ℤ} → drop (capacity * size) before ≡ drop (capacity * size) first → ListHeld size capacity zs r first after
   held-since e = record { beyond = h .beyond ∙ e; fits = h .fits; full = h .full }
 
+-- ---- a set put to a list goes behind it, unless it is there
+behind : List Matrix → Option Matrix → List Matrix
+behind zs none = zs
+behind zs (some z) = zs ++ (z ∷ [])
+
+keep-behind : (zs : List Matrix) (o : Option Matrix) → keep zs o ≡ behind zs (unmet zs o)
+unfolding keep unmet behind
+keep-behind zs none = refl
+keep-behind zs (some z) = go (anyOf (sameMatrix z) zs)
+  where
+    go : (t : Bool) → cond t zs (zs ++ (z ∷ [])) ≡ behind zs (cond t none (some z))
+    go true = refl
+    go false = refl
+
 -- ---- how it is handed back
 module _ {size capacity count : ℕ} {list : List ℤ} (room : ListRoom size capacity count list) where
   -- a list in place
@@ -92,32 +109,42 @@ module _ {size capacity count : ℕ} {list : List ℤ} (room : ListRoom size cap
   pub held-as-is : ListHeld size capacity (listIn size count list) (record { count = count; full = false }) list list
   held-as-is = in-place count (room .inside) (length-listIn size count list) refl refl
 
-  module _ (z : Matrix) where
-    abbrev kept : List Matrix
-    kept = keep (listIn size count list) (some z)
+  abbrev zs : List Matrix
+  zs = listIn size count list
 
-    longer : length (listIn size count list ++ (z ∷ [])) ≡ count + 1
-    longer = omega (arith, length-append (listIn size count list) (z ∷ []), length-listIn size count list)
+  longer : (z : Matrix) → length (zs ++ (z ∷ [])) ≡ count + 1
+  longer z = omega (arith, length-append zs (z ∷ []), length-listIn size count list)
 
-    pub held-same : anyOf (sameMatrix z) (listIn size count list) ≡ true → ListHeld size capacity kept (record { count = count; full = false }) list list
-    unfolding keep
-    held-same e = rw (e, keep) held-as-is
-
-    module _ (new : anyOf (sameMatrix z) (listIn size count list) ≡ false) where
-      pub held-no-room : count ≡ capacity → ListHeld size capacity kept (record { count = count; full = true }) list list
-      unfolding keep
-      held-no-room same = rw (new, keep) (record {
+  -- the set is built beside where there is no place left
+  pub held-beside : (o : Option Matrix) {k : ℕ} {before : List ℤ} {r : Bool} {after : List ℤ} → PlacedAt size k (unmet zs o) before r after → count ≡ capacity
+      → ListHeld size capacity (keep zs o) (record { count = count; full = r }) list list
+  unfolding behind
+  held-beside o p same = rw (keep-behind zs o) (go (p .left))
+    where
+      go : {u : Option Matrix} {r : Bool} {z : List ℤ} → Left u r z → ListHeld size capacity (behind zs u) (record { count = count; full = r }) list list
+      go gone = held-as-is
+      go (kept {d} h) = record {
         beyond = refl;
-        fits = λ f. absurd (omega (arith, longer));
+        fits = λ f. absurd (omega (arith, longer d));
         full = λ f.
-            let front = take-at (listIn size count list) (z ∷ []) count (length-listIn size count list) in
+            let front = take-at zs (d ∷ []) count (length-listIn size count list) in
             (ap (λ (k : ℕ). record { count = k; full = true }) same, rw (← same) (sym front));
-      })
+      }
 
-      pub held-new : {after : List ℤ} → (count ≡ capacity → ⊥) → Elsewhere size count list after → zoneAt size after count ≡ z
-          → ListHeld size capacity kept (record { count = count + 1; full = false }) list after
-      unfolding keep
-      held-new other e is =
-          let more : count < capacity = let h = room .inside in omega arith in
-          rw (new, keep) (in-place (count + 1) (omega arith) longer (list-more e ∙ ap (λ (m : Matrix). listIn size count list ++ (m ∷ [])) is)
-          (beyond-same e (capacity * size) (omega (arith, mul-le-mul-right size more, suc-mul count size))))
+  -- or at the next place, and counted
+  pub held-next : (o : Option Matrix) {r : Bool} {after : List ℤ} → PlacedAt size count (unmet zs o) list r after → (count ≡ capacity → ⊥)
+      → ListHeld size capacity (keep zs o) (record { count = cond r (count + 1) count; full = false }) list after
+  unfolding zoneAt behind
+  held-next o {after} p other = rw (keep-behind zs o) (go (p .left))
+    where
+      more : count < capacity
+      more = let h = room .inside in omega arith
+
+      beyond : drop (capacity * size) after ≡ drop (capacity * size) list
+      beyond = beyond-same (p .elsewhere) (capacity * size) (omega (arith, mul-le-mul-right size more, suc-mul count size))
+
+      go : {u : Option Matrix} {r : Bool} → Left u r (numbersAt size after count)
+          → ListHeld size capacity (behind zs u) (record { count = cond r (count + 1) count; full = false }) list after
+      go gone = in-place count (room .inside) (length-listIn size count list) (list-same (p .elsewhere)) beyond
+      go (kept {d} h) =
+          in-place (count + 1) (omega arith) (longer d) (list-more (p .elsewhere) ∙ ap (λ (m : Matrix). zs ++ (m ∷ [])) h) beyond

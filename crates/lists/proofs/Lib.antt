@@ -1,9 +1,11 @@
 -- The laws that the functions' proofs share; a caller's proof cites Held.
 pub mod Held
 pub mod Extensions
-pub mod Arrays
 pub mod Columns
+pub mod Rows
+pub mod Taking
 pub mod Going
+pub mod Fronts
 pub mod Starting
-pub mod Pulling
 pub mod Looking
+pub mod Pulling

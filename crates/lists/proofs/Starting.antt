@@ -5,11 +5,10 @@ use mathlib.Core.Path.{_≡_, refl}
 use mathlib.Core.List.{List, [], _∷_, map}
 use mathlib.Core.Option.{Option, none, some}
 use lib.IntN.{ℤ}
-use lib.ListN.{length, getD, replicate}
+use lib.ListN.{length, take, getD, replicate}
 use Rattle.model.specs.Sizes.{mostDepartures, zoneSize}
 use Rattle.model.specs.Lists.{anyOf}
 use Rattle.model.specs.Matrix.{Matrix, everything, tighten}
-use Rattle.model.specs.Network.{Time}
 use Rattle.model.specs.Pattern.{patternConstraints}
 use Rattle.model.specs.Search.{selections, preimage, keep}
 use Rattle.model.specs.Conditions.{clock}
@@ -22,44 +21,49 @@ use Rattle.zones.specs.Conditions.{CommonReady}
 use Rattle.zones.proofs.Leaving.{closed-in}
 use Rattle.lists.specs.Lists.{seenSize, zoneAt, listIn, Sources, Joins, Meets}
 use Rattle.lists.specs.Selecting.{extensions, Selecting}
-use Rattle.lists.specs.Met.{Noted}
-use Rattle.lists.proofs.places.Zones.{Elsewhere, list-more}
+use Rattle.lists.specs.Met.{Tables, Noted}
+use Rattle.lists.specs.Inner.{Elsewhere, parentIn, Underway}
+use Rattle.lists.proofs.places.Zones.{list-more}
 
--- the columns before row 1: the clock's
-abbrev pub clock-col : List ℕ
-clock-col = 0 ∷ []
+-- before row 1 only the clock's column is picked, and no set is noted: a 0 for each row
+abbrev rows : List ℕ
+rows = replicate (suc mostDepartures) 0
 
-pub first-set : {n : ℕ} {times zone : List ℤ} → Sources n times (boundsIn zone ∷ []) → ZoneIn n zone → Selecting n times zone (everything (suc n)) clock-col 1
-first-set {n} {times} s z = record {
-  backward = record { table = s .table; regular = s .regular; source = z };
-  to-end = omega arith;
-  before = record {
-    closed-set = everything-closed (suc n);
-    from-one = omega arith;
-    long = refl;
-    columns = λ l h. let e : l ≡ 0 = omega arith in rw e clock;
-    imaged = λ x m l h. let e : l ≡ 0 = omega arith in rw e (clock-imaged n (timesIn times) x);
-  };
-  fitting = λ rest q. let e : suc n - 1 ≡ n = omega arith in of-both (s .each) .0 rest (rw e at q);
-}
-
--- no set is met yet
 zeros : (n i : ℕ) → _≡_ {A = ℕ} (getD (replicate n 0) i 0) 0
 zeros zero i = refl
 zeros (suc n) zero = refl
 zeros (suc n) (suc i) = zeros n i
 
-pub none-noted : {n : ℕ} {times zone seen : List ℤ} {kept : List Matrix} → length seen ≡ seenSize
-    → Noted n times zone kept seen (replicate (suc mostDepartures) 0)
-none-noted e = record {
-  tables = record { seen-size = e; counts-size = refl; few = λ i. omega (arith, zeros (suc mostDepartures) i) };
-  covered = λ i c h. absurd (omega (arith, zeros (suc mostDepartures) i));
-}
+-- in a table that begins with the set of all times
+module _ {n : ℕ} {times zone : List ℤ} (s : Sources n times (boundsIn zone ∷ [])) (z : ZoneIn n zone)
+    (seen : List ℤ) (long : length seen ≡ seenSize) (first : zoneAt (zoneSize n) seen 0 ≡ everything (suc n)) where
+  tables : Tables seen rows
+  tables = record { seen-size = long; counted = record { size = refl; few = λ i. omega (arith, zeros (suc mostDepartures) i) } }
 
-pub preimages : (n : ℕ) (a : List Time) (d : Matrix)
-    → extensions n a d (some (everything (suc n))) clock-col 1 (suc n - 1) ≡ map (preimage n a d) (selections n a n 1)
-unfolding extensions preimage tighten
-preimages n a d = let e : suc n - 1 ≡ n = omega arith in rw e
+  first-set : Selecting n times zone (everything (suc n)) (take 1 rows) 1
+  first-set = record {
+    backward = record { table = s .table; regular = s .regular; source = z };
+    to-end = omega arith;
+    before = record {
+      closed-set = everything-closed (suc n);
+      from-one = omega arith;
+      long = refl;
+      columns = λ l h. let e : l ≡ 0 = omega arith in rw e clock;
+      imaged = λ x m l h. let e : l ≡ 0 = omega arith in rw e (clock-imaged n (timesIn times) x);
+    };
+    fitting = λ rest q. let e : suc n - 1 ≡ n = omega arith in of-both (s .each) .0 rest (rw e at q);
+  }
+
+  pub row-one : Underway n times zone seen rows rows 1
+  row-one = record { tables = tables; cols-size = refl; row = s .table .departures .some; selecting = rw first first-set }
+
+  pub none-noted : {kept : List Matrix} → Noted n times zone kept seen rows
+  none-noted = record { tables = tables; covered = λ i c h. absurd (omega (arith, zeros (suc mostDepartures) i)) }
+
+  pub preimages : extensions n (timesIn times) (boundsIn zone) (some (parentIn n seen rows 1)) (take 1 rows) 1 (suc n - 1)
+      ≡ map (preimage n (timesIn times) (boundsIn zone)) (selections n (timesIn times) n 1)
+  unfolding extensions preimage tighten
+  preimages = let e : suc n - 1 ≡ n = omega arith in rw (first, e)
 
 -- ---- a zone and a pattern
 pub common-ready : {n : ℕ} {pattern : List ℤ} {zs : List Matrix} (z : List ℤ) → Meets n pattern zs

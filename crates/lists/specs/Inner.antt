@@ -1,70 +1,103 @@
 -- What the functions inside this crate require and ensure.
-use Prim.Native.Nat.{ℕ, suc, _-_, _≤_}
+use Prim.Native.Nat.{ℕ, suc, _+_, _*_, _-_, _≤_}
 use mathlib.Core.Path.{_≡_}
-use mathlib.Core.List.{List, _∷_, [], foldl}
+use mathlib.Core.Bool.{Bool}
+use mathlib.Core.List.{List, [], _∷_, _++_, foldl}
 use mathlib.Core.Option.{Option, some}
 use lib.IntN.{ℤ}
 use lib.ListN.{length, take, drop}
-use Rattle.model.specs.Sizes.{mostDepartures, mostNumbers, zoneSize}
+use Rattle.model.specs.Sizes.{mostDepartures, zoneSize}
 use Rattle.model.specs.Matrix.{Matrix}
+use Rattle.model.specs.Network.{Time}
 use Rattle.model.specs.Search.{keep}
 use Rattle.model.specs.Conditions.{Column}
 use Rattle.memory.specs.Numbers.{boundsIn, timesIn}
+use Rattle.memory.specs.Conditions.{ZoneIn}
 use Rattle.zones.specs.Conditions.{Left}
 use Rattle.lists.specs.declared.Built.{Built}
-use Rattle.lists.specs.declared.Part.{Part}
-use Rattle.lists.specs.declared.Prefix.{Prefix}
-use Rattle.lists.specs.Lists.{seenSize, listIn, partIn, ListRoom, ListHeld, Sources}
+use Rattle.lists.specs.Lists.{seenSize, placesMet, numbersAt, zoneAt, listIn, ListRoom, ListHeld, Sources}
 use Rattle.lists.specs.Selecting.{extensions, withColumn, Selecting}
-use Rattle.lists.specs.Met.{metIn, Tables, unmet, Noted}
+use Rattle.lists.specs.Met.{freeAt, metIn, Tables, unmet, Noted}
 
--- a zone of the workspace in the first numbers of an array
-pub record Loaded (size base : ℕ) (work r : List ℤ) : Type 0 where
-  pub is : take size r ≡ take size (drop base work)
-  pub long : length r ≡ mostNumbers
+-- ---- a set built at place k of a list
+-- only the numbers of place k may differ
+pub record Elsewhere (size k : ℕ) (before after : List ℤ) : Type 0 where
+  pub front : take (k * size) after ≡ take (k * size) before
+  pub back : drop (k * size + size) after ≡ drop (k * size + size) before
 
--- the set o, in the first numbers of an array
-pub record PartIs (n : ℕ) (o : Option Matrix) (r : Part) : Type 0 where
-  pub left : Left o (r .some) (take (zoneSize n) (r .zone))
-  pub long : length (r .zone) ≡ mostNumbers
+-- the set o, by the answer. False: there is none, and what stands at the place is free
+pub record PlacedAt (size k : ℕ) (o : Option Matrix) (before : List ℤ) (r : Bool) (after : List ℤ) : Type 0 where
+  pub elsewhere : Elsewhere size k before after
+  pub left : Left o r (numbersAt size after k)
 
--- the start of a selection
-pub record Starting (p : Prefix) (times zone : List ℤ) : Type 0 where
-  pub selecting : Selecting (p .n) times zone (partIn (p .n) (p .part)) (take (p .i) (p .cols)) (p .i)
-  pub part-size : length (p .part) ≡ mostNumbers
-  pub cols-size : length (p .cols) ≡ suc mostDepartures
+-- ---- one column of row i
+-- what it adds to the set at place k of a list can be taken in
+pub record AddReady (n k : ℕ) (list times zone : List ℤ) (cols : List ℕ) (i s : ℕ) : Type 0 where
+  pub inside : k * zoneSize n + zoneSize n ≤ length list
+  pub cols-in : i ≤ length cols
+  pub row : i ≤ n
+  pub selecting : Selecting n times zone (zoneAt (zoneSize n) list k) (take i cols) i
+  pub column : Column n (timesIn times) i s
 
--- column s of its next row can be taken in
-pub record FreshReady (p : Prefix) (times zone seen : List ℤ) (counts : List ℕ) (s : ℕ) : Type 0 where
-  pub start : Starting p times zone
-  pub row : p .i ≤ p .n
-  pub column : Column (p .n) (timesIn times) (p .i) s
+-- the set at the free place of the row before
+abbrev pub parentIn : ℕ → List ℤ → List ℕ → ℕ → Matrix
+parentIn n seen counts i = zoneAt (zoneSize n) seen (freeAt counts (i - 1))
+
+-- a selection under way: the columns of rows 0 to i - 1 leave it
+pub record Underway (n : ℕ) (times zone seen : List ℤ) (counts cols : List ℕ) (i : ℕ) : Type 0 where
   pub tables : Tables seen counts
+  pub cols-size : length cols ≡ suc mostDepartures
+  pub row : i ≤ n
+  pub selecting : Selecting n times zone (parentIn n seen counts i) (take i cols) i
 
--- what it leaves, unless that was met
-abbrev pub freshOf : Prefix → List ℤ → List ℤ → List ℤ → List ℕ → ℕ → Option Matrix
-freshOf p times zone seen counts s =
-    unmet (metIn (zoneSize (p .n)) seen counts (p .i))
-    (withColumn (p .n) (timesIn times) (boundsIn zone) (partIn (p .n) (p .part)) (take (p .i) (p .cols)) (p .i) s)
+pub record ColumnReady (n : ℕ) (times zone seen : List ℤ) (counts cols : List ℕ) (i s : ℕ) : Type 0 where
+  pub ready : Underway n times zone seen counts cols i
+  pub column : Column n (timesIn times) i s
 
--- the sets of all selections that start so can be put to a list of count zones
-pub record SelectReady (p : Prefix) (capacity count : ℕ) (list times zone seen : List ℤ) (counts : List ℕ) : Type 0 where
-  pub room : ListRoom (zoneSize (p .n)) capacity count list
-  pub start : Starting p times zone
-  pub noted : Noted (p .n) times zone (listIn (zoneSize (p .n)) count list) seen counts
+-- what column s leaves of it
+abbrev pub leftOf : ℕ → List ℤ → List ℤ → List ℤ → List ℕ → List ℕ → ℕ → ℕ → Option Matrix
+leftOf n times zone seen counts cols i s = withColumn n (timesIn times) (boundsIn zone) (parentIn n seen counts i) (take i cols) i s
 
--- the list with them
-abbrev pub selected : Prefix → List ℤ → List ℤ → List Matrix → List Matrix
-selected p times zone zs =
-    foldl keep zs (extensions (p .n) (timesIn times) (boundsIn zone) (some (partIn (p .n) (p .part))) (take (p .i) (p .cols)) (p .i) (suc (p .n) - p .i))
+-- and what further rows make of that
+unfoldable pub columnSets : ℕ → List Time → Matrix → Matrix → List ℕ → ℕ → ℕ → List (Option Matrix)
+columnSets n a d part cols i s = extensions n a d (withColumn n a d part cols i s) (cols ++ (s ∷ [])) (suc i) (suc n - suc i)
 
-pub record Selected (p : Prefix) (capacity count : ℕ) (list times zone : List ℤ) (r : Built) (list′ seen′ : List ℤ) (counts′ : List ℕ) : Type 0 where
-  pub held : ListHeld (zoneSize (p .n)) capacity (selected p times zone (listIn (zoneSize (p .n)) count list)) r list list′
-  pub noted : Noted (p .n) times zone (selected p times zone (listIn (zoneSize (p .n)) count list)) seen′ counts′
+-- ---- the list
+-- the set of a full selection can be put to it
+pub record PutReady (n capacity count : ℕ) (list times zone seen : List ℤ) (counts cols : List ℕ) (s : ℕ) : Type 0 where
+  pub room : ListRoom (zoneSize n) capacity count list
+  pub column : ColumnReady n times zone seen counts cols n s
 
--- the preimages of a zone can be put to a list of count zones
+pub record PutLast (n capacity count : ℕ) (o : Option Matrix) (list seen : List ℤ) (counts : List ℕ) (r : Built) (list′ seen′ : List ℤ) : Type 0 where
+  pub held : ListHeld (zoneSize n) capacity (keep (listIn (zoneSize n) count list) o) r list list′
+  pub elsewhere : Elsewhere (zoneSize n) (freeAt counts n) seen seen′
+
+-- nothing before row i has changed
+pub record RowsFrom (n i : ℕ) (seen seen′ : List ℤ) (counts counts′ cols cols′ : List ℕ) : Type 0 where
+  pub sets-same : take (i * placesMet * zoneSize n) seen′ ≡ take (i * placesMet * zoneSize n) seen
+  pub counts-same : take i counts′ ≡ take i counts
+  pub cols-same : take i cols′ ≡ take i cols
+
+-- the sets of all columns of row i can be put to the list, and of column s
+pub record SelectReady (n capacity count : ℕ) (list times zone seen : List ℤ) (counts cols : List ℕ) (i : ℕ) : Type 0 where
+  pub room : ListRoom (zoneSize n) capacity count list
+  pub ready : Underway n times zone seen counts cols i
+  pub noted : Noted n times zone (listIn (zoneSize n) count list) seen counts
+
+pub record TakeReady (n capacity count : ℕ) (list times zone seen : List ℤ) (counts cols : List ℕ) (i s : ℕ) : Type 0 where
+  pub select : SelectReady n capacity count list times zone seen counts cols i
+  pub column : Column n (timesIn times) i s
+
+-- the list is zs then
+pub record Selected (n capacity i : ℕ) (times zone : List ℤ) (zs : List Matrix) (list seen : List ℤ) (counts cols : List ℕ) (r : Built) (list′ seen′ : List ℤ)
+    (counts′ cols′ : List ℕ) : Type 0 where
+  pub held : ListHeld (zoneSize n) capacity zs r list list′
+  pub noted : Noted n times zone zs seen′ counts′
+  pub rows : RowsFrom n i seen seen′ counts counts′ cols cols′
+
+-- the preimages of a zone can be put to it
 pub record PullReady (n capacity count : ℕ) (list times zone seen : List ℤ) : Type 0 where
   pub room : ListRoom (zoneSize n) capacity count list
-  pub sources : Sources n times (partIn n zone ∷ [])
-  pub zone-size : length zone ≡ mostNumbers
+  pub sources : Sources n times (boundsIn zone ∷ [])
+  pub source : ZoneIn n zone
   pub seen-size : length seen ≡ seenSize

@@ -20,24 +20,26 @@ use Rattle.memory.specs.Conditions.{TableIn, PatternIn}
 use Rattle.lists.specs.declared.Built.{Built}
 use Rattle.lists.specs.declared.Found.{Found}
 
--- how many sets can be noted after each row, and the numbers of the table in which they are kept
+-- how many sets can be noted after each row, its places, and the numbers of the table
 abbrev pub setsMet : ℕ
 setsMet = 128
 
-abbrev pub seenSize : ℕ
-seenSize = suc mostDepartures * setsMet * mostNumbers
+abbrev pub placesMet : ℕ
+placesMet = suc setsMet
 
--- zone k, of size numbers
+abbrev pub seenSize : ℕ
+seenSize = suc mostDepartures * placesMet * mostNumbers
+
+-- the numbers at place k, of size numbers each, and the zone there
+abbrev pub numbersAt : ℕ → List ℤ → ℕ → List ℤ
+numbersAt size work k = take size (drop (k * size) work)
+
 unfoldable pub zoneAt : ℕ → List ℤ → ℕ → Matrix
-zoneAt size work k = boundsIn (take size (drop (k * size) work))
+zoneAt size work k = boundsIn (numbersAt size work k)
 
 -- the first count zones
 unfoldable pub listIn : ℕ → ℕ → List ℤ → List Matrix
 listIn size count work = tabulate count 0 (zoneAt size work)
-
--- the zone in the first numbers of an array
-abbrev pub partIn : ℕ → List ℤ → Matrix
-partIn n part = boundsIn (take (zoneSize n) part)
 
 -- a list of count zones, with room for as many as the capacity
 pub record ListRoom (size capacity count : ℕ) (work : List ℤ) : Type 0 where

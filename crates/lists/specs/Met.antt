@@ -1,48 +1,45 @@
 -- The sets met, in a table with a part for each row.
 use Prim.Native.Nat.{ℕ, suc, _+_, _*_, _-_, _≤_, _<_}
 use mathlib.Core.Path.{_≡_}
-use mathlib.Core.Logic.{_⊎_}
 use mathlib.Core.Bool.{cond}
 use mathlib.Core.List.{List}
 use mathlib.Core.Option.{Option, none, some}
 use lib.IntN.{ℤ}
-use lib.ListN.{length, getD}
-use Rattle.model.specs.Sizes.{mostDepartures, mostNumbers, zoneSize}
+use lib.Dec.{ltb}
+use lib.ListN.{length, getD, set}
+use Rattle.model.specs.Sizes.{mostDepartures, zoneSize}
 use Rattle.model.specs.Lists.{tabulate, anyOf, Every, Some}
 use Rattle.model.specs.Matrix.{Matrix, sameMatrix}
 use Rattle.model.specs.Network.{Time}
 use Rattle.model.specs.Conditions.{Before}
 use Rattle.memory.specs.Numbers.{boundsIn, timesIn}
-use Rattle.lists.specs.Lists.{setsMet, seenSize, zoneAt}
+use Rattle.lists.specs.Lists.{setsMet, placesMet, seenSize, zoneAt}
 use Rattle.lists.specs.Selecting.{extensions}
 
--- the sets noted after row i, as many as counts says
+-- the free place of row i: behind the sets noted after it, as many as counts says
+abbrev pub freeAt : List ℕ → ℕ → ℕ
+freeAt counts i = i * placesMet + getD counts i 0
+
+-- those sets
 abbrev pub metIn : ℕ → List ℤ → List ℕ → ℕ → List Matrix
-metIn size seen counts i = tabulate (getD counts i 0) (i * setsMet) (zoneAt size seen)
+metIn size seen counts i = tabulate (getD counts i 0) (i * placesMet) (zoneAt size seen)
+
+pub record Counts (counts : List ℕ) : Type 0 where
+  pub size : length counts ≡ suc mostDepartures
+  pub few : (i : ℕ) → getD counts i 0 ≤ setsMet
 
 pub record Tables (seen : List ℤ) (counts : List ℕ) : Type 0 where
   pub seen-size : length seen ≡ seenSize
-  pub counts-size : length counts ≡ suc mostDepartures
-  pub few : (i : ℕ) → getD counts i 0 ≤ setsMet
+  pub counted : Counts counts
 
--- the part of row i, and a set
-pub record MetRow (size i : ℕ) (zone seen : List ℤ) (counts : List ℕ) : Type 0 where
-  pub tables : Tables seen counts
-  pub row : i ≤ mostDepartures
-  pub fits : length zone ≡ size
-  pub small : size ≤ mostNumbers
+-- one more in row i, if there is room
+unfoldable pub notedIn : List ℕ → ℕ → List ℕ
+notedIn counts i = cond (ltb (getD counts i 0) setsMet) (set counts i (getD counts i 0 + 1)) counts
 
 -- a set, if it is none of zs
 unfoldable pub unmet : List Matrix → Option Matrix → Option Matrix
 unmet zs none = none
 unmet zs (some z) = cond (anyOf (sameMatrix z) zs) none (some z)
-
--- each set noted after a row was noted there before, or the row is i and the set z
-pub record Noting (size i : ℕ) (z : Matrix) (seen seen′ : List ℤ) (counts counts′ : List ℕ) : Type 0 where
-  pub tables : Tables seen′ counts′
-  pub each : (j c : ℕ) → c < getD counts′ j 0
-      → ((c < getD counts j 0) × (zoneAt size seen′ (j * setsMet + c) ≡ zoneAt size seen (j * setsMet + c)))
-      ⊎ ((j ≡ i) × (zoneAt size seen′ (j * setsMet + c) ≡ z))
 
 -- ---- what is known of a set noted
 -- a set that is in kept, or none
@@ -58,4 +55,4 @@ pub record Covered (n : ℕ) (a : List Time) (d : Matrix) (kept : List Matrix) (
 -- so it is for each set noted
 pub record Noted (n : ℕ) (times zone : List ℤ) (kept : List Matrix) (seen : List ℤ) (counts : List ℕ) : Type 0 where
   pub tables : Tables seen counts
-  pub covered : (i c : ℕ) → c < getD counts i 0 → Covered n (timesIn times) (boundsIn zone) kept (suc i) (zoneAt (zoneSize n) seen (i * setsMet + c))
+  pub covered : (i c : ℕ) → c < getD counts i 0 → Covered n (timesIn times) (boundsIn zone) kept (suc i) (zoneAt (zoneSize n) seen (i * placesMet + c))

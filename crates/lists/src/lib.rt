@@ -2,19 +2,19 @@
 ghost use mathlib.Core.Path.{_≡_};
 ghost use mathlib.Core.Option.{some};
 ghost use mathlib.Core.List.{[], _∷_, map, foldl};
-ghost use Prim.Native.Nat.{suc, _+_, _*_, _≤_, _<_};
-ghost use lib.ListN.{length, take, drop, set};
-ghost use Rattle.model.specs.Sizes.{mostDepartures, mostNumbers, zoneSize};
+ghost use Prim.Native.Nat.{suc, _+_, _*_, _-_, _≤_};
+ghost use lib.ListN.{length, take, drop};
+ghost use Rattle.model.specs.Sizes.{zoneSize};
 ghost use Rattle.model.specs.Matrix.{everything};
 ghost use Rattle.model.specs.Network.{time, isTime};
-ghost use Rattle.model.specs.Search.{keep, preimage, selections, common, firstCommon};
-ghost use Rattle.model.specs.Conditions.{Departures};
+ghost use Rattle.model.specs.Search.{keep, preimage, selections, firstCommon};
 ghost use Rattle.memory.specs.Numbers.{boundsIn, timesIn};
 ghost use Rattle.memory.specs.Conditions.{TimeCell};
-ghost use Rattle.zones.specs.Conditions.{CommonReady};
-ghost use Rattle.lists.specs.Lists.{listIn, partIn, ListRoom, ListHeld, Building, NextList, Meets, FirstList, Meeting, foundBy};
-ghost use Rattle.lists.specs.Selecting.{ColumnsFrom, NextColumn};
-ghost use Rattle.lists.specs.Inner.{PartIs, FreshReady, freshOf, SelectReady, Selected, PullReady};
+ghost use Rattle.lists.specs.Lists.{zoneAt, listIn, ListHeld, Building, NextList, Meets, FirstList, Meeting, foundBy};
+ghost use Rattle.lists.specs.Selecting.{ColumnsFrom, NextColumn, extensions, withColumn};
+ghost use Rattle.lists.specs.Met.{freeAt, unmet};
+ghost use Rattle.lists.specs.Inner.{PlacedAt, AddReady, parentIn, ColumnReady, leftOf, columnSets};
+ghost use Rattle.lists.specs.Inner.{PutReady, PutLast, SelectReady, TakeReady, Selected, PullReady};
 use ints::Seconds;
 use ints::ZERO;
 use memory::Number;
@@ -44,78 +44,6 @@ pub struct Found {
     pub start: [Seconds; DEPARTURES],
 }
 
-// A set, in the first numbers of the array, if it is not empty.
-struct Part {
-    some: bool,
-    zone: [i32; NUMBERS],
-}
-
-// The start of a selection: the columns of the rows before row i, and the set that they leave.
-struct Prefix {
-    part: [i32; NUMBERS],
-    cols: [usize; ROWS],
-    n: usize,
-    i: usize,
-}
-
-// A set is kept if it differs from all kept earlier.
-fn keep_set(list: &mut [i32], count: usize, capacity: usize, zone: &[i32], size: usize) -> Built
-    requires { ⌜ ListRoom size capacity count (now list) × (length (now zone) ≡ size) ⌝ }
-    ensures { λ r. ⌜
-        ListHeld size capacity (keep (listIn size count (now (list .entry))) (some (boundsIn (now (zone .entry)))))
-        r (now (list .entry)) (now (list .exit))
-        ⌝ }
-{
-    if places::has(list, 0, count, zone, size) {
-        return Built { count, full: false };
-    }
-    if count == capacity {
-        return Built { count, full: true };
-    }
-    places::store(list, count, zone, size);
-    Built {
-        count: count + 1,
-        full: false,
-    }
-}
-
-// One row more: column s of row i, which leaves the set next.
-fn picked(p: Prefix, next: [i32; NUMBERS], s: usize) -> Prefix
-    requires { ⌜ (p .i ≤ mostDepartures) × (length (p .cols) ≡ suc mostDepartures) ⌝ }
-    ensures { λ r. ⌜ r ≡ record { part = next; cols = set (p .cols) (p .i) s; n = p .n; i = p .i + 1 } ⌝ }
-{
-    let i = p.i;
-    let mut cols = p.cols;
-    cols[i] = s;
-    Prefix {
-        part: next,
-        cols,
-        n: p.n,
-        i: i + 1,
-    }
-}
-
-// What column s of row i leaves of a set, unless it is one of those noted after that row.
-fn fresh(p: Prefix, times: &[i32], zone: &[i32], seen: &[i32], counts: &[usize], s: usize) -> Part
-    requires { ⌜ FreshReady p (now times) (now zone) (now seen) (now counts) s ⌝ }
-    ensures { λ r. ⌜ PartIs (p .n) (freshOf p (now (times .entry)) (now (zone .entry)) (now (seen .entry)) (now (counts .entry)) s) r ⌝ }
-{
-    let n = p.n;
-    let i = p.i;
-    let cols = p.cols;
-    let size = zone_size(n);
-    let mut set = p.part;
-    let some = zones::add_row(&mut set[..size], times, zone, &cols[..i], n, i, s);
-    if !some {
-        return Part { some, zone: set };
-    }
-    let old = met::has(seen, counts, i, &set[..size], size);
-    Part {
-        some: !old,
-        zone: set,
-    }
-}
-
 // Column s of row i holds a time.
 fn holds_time(times: &[i32], n: usize, i: usize, s: usize) -> bool
     requires { ⌜ TimeCell n (now times) i s ⌝ }
@@ -142,7 +70,173 @@ fn next_column(times: &[i32], n: usize, i: usize, s: usize) -> usize
     t
 }
 
-// The sets of the selections that start so, with any columns in rows i to n, put to the list. A set noted after its row would add nothing.
+// What column s of row i leaves of the zone at place k of a list, in place. False where that is nothing.
+fn add_at(
+    list: &mut [i32],
+    k: usize,
+    times: &[i32],
+    zone: &[i32],
+    cols: &[usize],
+    n: usize,
+    i: usize,
+    s: usize,
+) -> bool
+    requires { ⌜ AddReady n k (now list) (now times) (now zone) (now cols) i s ⌝ }
+    ensures { λ r. ⌜
+        PlacedAt (zoneSize n) k
+        (withColumn n (timesIn (now (times .entry))) (boundsIn (now (zone .entry))) (zoneAt (zoneSize n) (now (list .entry)) k)
+        (take i (now (cols .entry))) i s)
+        (now (list .entry)) r (now (list .exit))
+        ⌝ }
+{
+    let size = zone_size(n);
+    let base = k * size;
+    let end = base + size;
+    zones::add_row(&mut list[base..end], times, zone, &cols[..i], n, i, s)
+}
+
+// Builds, at the place of the next zone of the list, what column s of the last row leaves of the set at the free place of the row before. False where that
+// is nothing, or in the list already.
+fn next_zone(
+    list: &mut [i32],
+    count: usize,
+    times: &[i32],
+    zone: &[i32],
+    seen: &[i32],
+    counts: &[usize],
+    cols: &[usize],
+    n: usize,
+    s: usize,
+) -> bool
+    requires { ⌜ ColumnReady n (now times) (now zone) (now seen) (now counts) (now cols) n s × (count * zoneSize n + zoneSize n ≤ length (now list)) ⌝ }
+    ensures { λ r. ⌜
+        PlacedAt (zoneSize n) count
+        (unmet (listIn (zoneSize n) count (now (list .entry)))
+        (leftOf n (now (times .entry)) (now (zone .entry)) (now (seen .entry)) (now (counts .entry)) (now (cols .entry)) n s))
+        (now (list .entry)) r (now (list .exit))
+        ⌝ }
+{
+    let size = zone_size(n);
+    let base = met::free(counts, n - 1) * size;
+    let end = base + size;
+    places::store(list, count, &seen[base..end], size);
+    if !add_at(list, count, times, zone, cols, n, n, s) {
+        return false;
+    }
+    !places::has_at(list, 0, count, count, size)
+}
+
+// The same where the list has no place left: the set is built beside, in the last row's free place.
+fn beside(
+    list: &[i32],
+    count: usize,
+    times: &[i32],
+    zone: &[i32],
+    seen: &mut [i32],
+    counts: &[usize],
+    cols: &[usize],
+    n: usize,
+    s: usize,
+) -> bool
+    requires { ⌜ ColumnReady n (now times) (now zone) (now seen) (now counts) (now cols) n s × (count * zoneSize n ≤ length (now list)) ⌝ }
+    ensures { λ r. ⌜
+        PlacedAt (zoneSize n) (freeAt (now (counts .entry)) n)
+        (unmet (listIn (zoneSize n) count (now (list .entry)))
+        (leftOf n (now (times .entry)) (now (zone .entry)) (now (seen .entry)) (now (counts .entry)) (now (cols .entry)) n s))
+        (now (seen .entry)) r (now (seen .exit))
+        ⌝ }
+{
+    if !met::grow(seen, counts, cols, times, zone, n, n, s) {
+        return false;
+    }
+    let size = zone_size(n);
+    let base = met::free(counts, n) * size;
+    let end = base + size;
+    !places::has(list, 0, count, &seen[base..end], size)
+}
+
+// The set of a full selection, put to the list: it is kept by counting it.
+fn put_last(
+    list: &mut [i32],
+    count: usize,
+    capacity: usize,
+    times: &[i32],
+    zone: &[i32],
+    seen: &mut [i32],
+    counts: &[usize],
+    cols: &[usize],
+    n: usize,
+    s: usize,
+) -> Built
+    requires { ⌜ PutReady n capacity count (now list) (now times) (now zone) (now seen) (now counts) (now cols) s ⌝ }
+    ensures { λ r. ⌜
+        PutLast n capacity count (leftOf n (now (times .entry)) (now (zone .entry)) (now (seen .entry)) (now (counts .entry)) (now (cols .entry)) n s)
+        (now (list .entry)) (now (seen .entry)) (now (counts .entry)) r (now (list .exit)) (now (seen .exit))
+        ⌝ }
+{
+    if count == capacity {
+        let full = beside(list, count, times, zone, seen, counts, cols, n, s);
+        return Built { count, full };
+    }
+    if next_zone(list, count, times, zone, seen, counts, cols, n, s) {
+        return Built {
+            count: count + 1,
+            full: false,
+        };
+    }
+    Built { count, full: false }
+}
+
+// The sets of the selections with column s in row i, put to the list.
+fn take_column(
+    list: &mut [i32],
+    count: usize,
+    capacity: usize,
+    times: &[i32],
+    zone: &[i32],
+    seen: &mut [i32],
+    counts: &mut [usize],
+    cols: &mut [usize],
+    n: usize,
+    i: usize,
+    s: usize,
+) -> Built
+    requires { ⌜ TakeReady n capacity count (now list) (now times) (now zone) (now seen) (now counts) (now cols) i s ⌝ }
+    ensures { λ r. ⌜
+        Selected n capacity i (now (times .entry)) (now (zone .entry))
+        (foldl keep (listIn (zoneSize n) count (now (list .entry)))
+        (columnSets n (timesIn (now (times .entry))) (boundsIn (now (zone .entry)))
+        (parentIn n (now (seen .entry)) (now (counts .entry)) i) (take i (now (cols .entry))) i s))
+        (now (list .entry)) (now (seen .entry)) (now (counts .entry)) (now (cols .entry))
+        r (now (list .exit)) (now (seen .exit)) (now (counts .exit)) (now (cols .exit))
+        ⌝ }
+{
+    if i == n {
+        return put_last(list, count, capacity, times, zone, seen, counts, cols, n, s);
+    }
+    if !met::fresh(seen, counts, cols, times, zone, n, i, s) {
+        return Built { count, full: false };
+    }
+    cols[i] = s;
+    let built = select(
+        list,
+        count,
+        capacity,
+        times,
+        zone,
+        seen,
+        counts,
+        cols,
+        n,
+        i + 1,
+    );
+    if !built.full {
+        met::note(counts, i);
+    }
+    built
+}
+
+// The sets of the selections with any columns in rows i to n, put to the list. A set noted after its row would add nothing.
 fn select(
     list: &mut [i32],
     count: usize,
@@ -151,59 +245,42 @@ fn select(
     zone: &[i32],
     seen: &mut [i32],
     counts: &mut [usize],
-    p: Prefix,
+    cols: &mut [usize],
+    n: usize,
+    i: usize,
 ) -> Built
-    requires { ⌜ SelectReady p capacity count (now list) (now times) (now zone) (now seen) (now counts) ⌝ }
+    requires { ⌜ SelectReady n capacity count (now list) (now times) (now zone) (now seen) (now counts) (now cols) i ⌝ }
     ensures { λ r. ⌜
-        Selected p capacity count (now (list .entry)) (now (times .entry)) (now (zone .entry)) r
-        (now (list .exit)) (now (seen .exit)) (now (counts .exit))
+        Selected n capacity i (now (times .entry)) (now (zone .entry))
+        (foldl keep (listIn (zoneSize n) count (now (list .entry)))
+        (extensions n (timesIn (now (times .entry))) (boundsIn (now (zone .entry)))
+        (some (parentIn n (now (seen .entry)) (now (counts .entry)) i)) (take i (now (cols .entry))) i (suc n - i)))
+        (now (list .entry)) (now (seen .entry)) (now (counts .entry)) (now (cols .entry))
+        r (now (list .exit)) (now (seen .exit)) (now (counts .exit)) (now (cols .exit))
         ⌝ }
 {
-    let n = p.n;
-    let i = p.i;
-    let size = zone_size(n);
-    if n < i {
-        let part = p.part;
-        return keep_set(list, count, capacity, &part[..size], size);
-    }
     let mut built = Built { count, full: false };
     let mut s = next_column(times, n, i, 1);
     while s <= n {
-        let next = fresh(p, times, zone, seen, counts, s);
-        if next.some {
-            let set = next.zone;
-            let more = picked(p, set, s);
-            built = select(list, built.count, capacity, times, zone, seen, counts, more);
-            if built.full {
-                return built;
-            }
-            met::note(seen, counts, n, i, &set[..size], size);
+        built = take_column(
+            list,
+            built.count,
+            capacity,
+            times,
+            zone,
+            seen,
+            counts,
+            cols,
+            n,
+            i,
+            s,
+        );
+        if built.full {
+            return built;
         }
         s = next_column(times, n, i, s + 1);
     }
     built
-}
-
-// The set of all times.
-fn all_times(n: usize) -> [i32; NUMBERS]
-    requires { ⌜ Departures n ⌝ }
-    ensures { λ r. ⌜ (partIn n r ≡ everything (suc n)) × (length r ≡ mostNumbers) ⌝ }
-{
-    let size = zone_size(n);
-    let mut zone = [0i32; NUMBERS];
-    zones::everything(&mut zone[..size], n);
-    zone
-}
-
-// What a set has in common with a pattern.
-fn meet(zone: [i32; NUMBERS], pattern: &[i32], n: usize) -> Part
-    requires { ⌜ CommonReady n (take (zoneSize n) zone) (now pattern) × (length zone ≡ mostNumbers) ⌝ }
-    ensures { λ r. ⌜ PartIs n (common n (partIn n zone) (boundsIn (now (pattern .entry)))) r ⌝ }
-{
-    let size = zone_size(n);
-    let mut next = zone;
-    let some = zones::common(&mut next[..size], pattern, n);
-    Part { some, zone: next }
 }
 
 // The preimages of a zone by all selections, put to the list.
@@ -212,37 +289,33 @@ fn pull_back(
     count: usize,
     capacity: usize,
     times: &[i32],
-    zone: [i32; NUMBERS],
+    zone: &[i32],
     seen: &mut [i32],
     n: usize,
 ) -> Built
-    requires { ⌜ PullReady n capacity count (now list) (now times) zone (now seen) ⌝ }
+    requires { ⌜ PullReady n capacity count (now list) (now times) (now zone) (now seen) ⌝ }
     ensures { λ r. ⌜
         ListHeld (zoneSize n) capacity
         (foldl keep (listIn (zoneSize n) count (now (list .entry)))
-        (map (preimage n (timesIn (now (times .entry))) (partIn n zone)) (selections n (timesIn (now (times .entry))) n 1)))
+        (map (preimage n (timesIn (now (times .entry))) (boundsIn (now (zone .entry)))) (selections n (timesIn (now (times .entry))) n 1)))
         r (now (list .entry)) (now (list .exit))
         ⌝ }
 {
     let size = zone_size(n);
-    let part = all_times(n);
-    let cols = [0usize; ROWS];
+    zones::everything(&mut seen[..size], n);
     let mut counts = [0usize; ROWS];
-    let p = Prefix {
-        part,
-        cols,
-        n,
-        i: 1,
-    };
+    let mut cols = [0usize; ROWS];
     select(
         list,
         count,
         capacity,
         times,
-        &zone[..size],
+        zone,
         seen,
         &mut counts,
-        p,
+        &mut cols,
+        n,
+        1,
     )
 }
 
@@ -263,18 +336,21 @@ pub fn next_list(
         ⌝ }
 {
     let size = zone_size(n);
+    let mut zone = [0i32; NUMBERS];
     let mut built = Built {
         count: 0,
         full: false,
     };
     for k in 0..count {
-        let zone = places::load(work, source + k * size, size);
+        let from = source + k * size;
+        let to = from + size;
+        places::store(&mut zone[..size], 0, &work[from..to], size);
         built = pull_back(
             &mut work[goal..],
             built.count,
             capacity,
             times,
-            zone,
+            &zone[..size],
             seen,
             n,
         );
@@ -290,17 +366,15 @@ pub fn first_list(work: &mut [i32], pattern: &[i32], n: usize) -> usize
     requires { ⌜ Meets n (now pattern) (everything (suc n) ∷ []) × (zoneSize n ≤ length (now work)) ⌝ }
     ensures { λ r. ⌜ FirstList n (now (pattern .entry)) (now (work .entry)) (now (work .exit)) r ⌝ }
 {
-    let set = meet(all_times(n), pattern, n);
-    if !set.some {
+    let size = zone_size(n);
+    zones::everything(&mut work[..size], n);
+    if !zones::common(&mut work[..size], pattern, n) {
         return 0;
     }
-    let zone = set.zone;
-    let size = zone_size(n);
-    places::store(work, 0, &zone[..size], size);
     1
 }
 
-// The first zone of the list at base that meets the pattern.
+// The first zone of the list at base that meets the pattern. What they have in common is tightened beside, since the zone is needed for the next list.
 pub fn first_common(work: &[i32], base: usize, count: usize, pattern: &[i32], n: usize) -> Found
     requires { ⌜ Meeting n base count (now work) (now pattern) ⌝ }
     ensures { λ r. ⌜
@@ -308,10 +382,12 @@ pub fn first_common(work: &[i32], base: usize, count: usize, pattern: &[i32], n:
         ⌝ }
 {
     let size = zone_size(n);
+    let mut zone = [0i32; NUMBERS];
     for k in 0..count {
-        let set = meet(places::load(work, base + k * size, size), pattern, n);
-        if set.some {
-            let zone = set.zone;
+        let from = base + k * size;
+        let to = from + size;
+        places::store(&mut zone[..size], 0, &work[from..to], size);
+        if zones::common(&mut zone[..size], pattern, n) {
             let start = zones::pick(&zone[..size], n);
             return Found { some: true, start };
         }

@@ -1,51 +1,90 @@
-// The sets met: for each row a table of sets that were left after it. Whatever further rows make of a set noted there is in the list already.
+// The sets met: each row has places for the sets that were left after it, and one place more, where the next one is built. Whatever further rows
+// make of a set that is noted, by counting it, is in the list already.
 ghost use mathlib.Core.Path.{_≡_};
-ghost use Prim.Native.Nat.{_<_};
-ghost use Rattle.model.specs.Lists.{anyOf};
-ghost use Rattle.model.specs.Matrix.{sameMatrix};
-ghost use Rattle.memory.specs.Numbers.{boundsIn};
-ghost use Rattle.lists.specs.Met.{metIn, MetRow, Noting};
+ghost use Prim.Native.Nat.{_≤_};
+ghost use Rattle.model.specs.Sizes.{mostDepartures, zoneSize};
+ghost use Rattle.lists.specs.Met.{freeAt, metIn, Counts, unmet, notedIn};
+ghost use Rattle.lists.specs.Inner.{PlacedAt, ColumnReady, leftOf};
 use super::places;
+use memory::zone_size;
 use model::DEPARTURES;
 use model::NUMBERS;
 
-// How many sets can be noted after each row.
+// How many sets can be noted after each row, and the places of a row.
 const SETS: usize = 128;
 
-// The numbers of the table in which they are kept: a row for the clock, too.
-pub(crate) const SEEN: usize = (DEPARTURES + 1) * SETS * NUMBERS;
+const PLACES: usize = SETS + 1;
 
-// The set is one of those noted after row i.
-pub(crate) fn has(seen: &[i32], counts: &[usize], i: usize, zone: &[i32], size: usize) -> bool
-    requires { ⌜ MetRow size i (now zone) (now seen) (now counts) ⌝ }
-    ensures { λ r. ⌜ r ≡ anyOf (sameMatrix (boundsIn (now (zone .entry)))) (metIn size (now (seen .entry)) (now (counts .entry)) i) ⌝ }
+// The numbers of the table: a row for the clock, too.
+pub(crate) const SEEN: usize = (DEPARTURES + 1) * PLACES * NUMBERS;
+
+// The free place of row i.
+pub(crate) fn free(counts: &[usize], i: usize) -> usize
+    requires { ⌜ Counts (now counts) × (i ≤ mostDepartures) ⌝ }
+    ensures { λ r. ⌜ r ≡ freeAt (now (counts .entry)) i ⌝ }
 {
-    let first = i * SETS;
-    let count = counts[i];
-    places::has(seen, first, first + count, zone, size)
+    i * PLACES + counts[i]
 }
 
-// Notes the set after row i, if there is room. None are noted after the last row, n.
-pub(crate) fn note(
+// Builds, at the free place of row i, what column s leaves of the set at the free place of the row before. False where that is nothing.
+pub(crate) fn grow(
     seen: &mut [i32],
-    counts: &mut [usize],
+    counts: &[usize],
+    cols: &[usize],
+    times: &[i32],
+    zone: &[i32],
     n: usize,
     i: usize,
-    zone: &[i32],
-    size: usize,
-)
-    requires { ⌜ MetRow size i (now zone) (now seen) (now counts) ⌝ }
+    s: usize,
+) -> bool
+    requires { ⌜ ColumnReady n (now times) (now zone) (now seen) (now counts) (now cols) i s ⌝ }
     ensures { λ r. ⌜
-        Noting size i (boundsIn (now (zone .entry))) (now (seen .entry)) (now (seen .exit)) (now (counts .entry)) (now (counts .exit))
+        PlacedAt (zoneSize n) (freeAt (now (counts .entry)) i)
+        (leftOf n (now (times .entry)) (now (zone .entry)) (now (seen .entry)) (now (counts .entry)) (now (cols .entry)) i s)
+        (now (seen .entry)) r (now (seen .exit))
         ⌝ }
 {
-    if n <= i {
-        return;
+    let size = zone_size(n);
+    let parent = free(counts, i - 1);
+    let here = free(counts, i);
+    places::copy(seen, parent, here, size);
+    super::add_at(seen, here, times, zone, cols, n, i, s)
+}
+
+// The same, but also false where the set is one of those noted after the row.
+pub(crate) fn fresh(
+    seen: &mut [i32],
+    counts: &[usize],
+    cols: &[usize],
+    times: &[i32],
+    zone: &[i32],
+    n: usize,
+    i: usize,
+    s: usize,
+) -> bool
+    requires { ⌜ ColumnReady n (now times) (now zone) (now seen) (now counts) (now cols) i s ⌝ }
+    ensures { λ r. ⌜
+        PlacedAt (zoneSize n) (freeAt (now (counts .entry)) i)
+        (unmet (metIn (zoneSize n) (now (seen .entry)) (now (counts .entry)) i)
+        (leftOf n (now (times .entry)) (now (zone .entry)) (now (seen .entry)) (now (counts .entry)) (now (cols .entry)) i s))
+        (now (seen .entry)) r (now (seen .exit))
+        ⌝ }
+{
+    if !grow(seen, counts, cols, times, zone, n, i, s) {
+        return false;
     }
+    let size = zone_size(n);
+    let here = free(counts, i);
+    !places::has_at(seen, i * PLACES, here, here, size)
+}
+
+// Notes the set at the free place of row i by counting it, if there is room for another.
+pub(crate) fn note(counts: &mut [usize], i: usize)
+    requires { ⌜ Counts (now counts) × (i ≤ mostDepartures) ⌝ }
+    ensures { λ r. ⌜ now (counts .exit) ≡ notedIn (now (counts .entry)) i ⌝ }
+{
     let count = counts[i];
-    if SETS <= count {
-        return;
+    if count < SETS {
+        counts[i] = count + 1;
     }
-    places::store(seen, i * SETS + count, zone, size);
-    counts[i] = count + 1;
 }

@@ -1,16 +1,13 @@
 // Sets at places of a list: place k of sets of so many numbers begins k times as many numbers behind the first.
 ghost use mathlib.Core.Path.{_≡_};
-ghost use Prim.Native.Nat.{_+_, _*_, _-_, _≤_};
+ghost use Prim.Native.Nat.{_+_, _*_, _-_, _≤_, _<_};
 ghost use lib.ListN.{length};
 ghost use lib.Seq.{paste};
-ghost use Rattle.model.specs.Sizes.{mostNumbers};
 ghost use Rattle.model.specs.Lists.{tabulate, anyOf};
 ghost use Rattle.model.specs.Bound.{sameZ};
 ghost use Rattle.model.specs.Matrix.{sameMatrix};
 ghost use Rattle.memory.specs.Numbers.{boundsIn};
-ghost use Rattle.lists.specs.Lists.{zoneAt};
-ghost use Rattle.lists.specs.Inner.{Loaded};
-use model::NUMBERS;
+ghost use Rattle.lists.specs.Lists.{numbersAt, zoneAt};
 
 // Two numbers in memory are equal.
 fn equal(a: i32, b: i32) -> bool
@@ -55,6 +52,18 @@ pub(crate) fn has(list: &[i32], first: usize, end: usize, zone: &[i32], size: us
     false
 }
 
+// The same, for zone k of the list itself.
+pub(crate) fn has_at(list: &[i32], first: usize, end: usize, k: usize, size: usize) -> bool
+    requires { ⌜ (first ≤ end) × (end * size ≤ length (now list)) × (k * size + size ≤ length (now list)) ⌝ }
+    ensures { λ r. ⌜
+        r ≡ anyOf (sameMatrix (zoneAt size (now (list .entry)) k)) (tabulate (end - first) first (zoneAt size (now (list .entry))))
+        ⌝ }
+{
+    let base = k * size;
+    let behind = base + size;
+    has(list, first, end, &list[base..behind], size)
+}
+
 // The zone, as zone k of the list.
 pub(crate) fn store(list: &mut [i32], k: usize, zone: &[i32], size: usize)
     requires { ⌜ (length (now zone) ≡ size) × (k * size + size ≤ length (now list)) ⌝ }
@@ -67,15 +76,15 @@ pub(crate) fn store(list: &mut [i32], k: usize, zone: &[i32], size: usize)
     }
 }
 
-// A zone of the workspace, copied to the first numbers of an array.
-pub(crate) fn load(work: &[i32], base: usize, size: usize) -> [i32; NUMBERS]
-    requires { ⌜ (size ≤ mostNumbers) × (base + size ≤ length (now work)) ⌝ }
-    ensures { λ r. ⌜ Loaded size base (now (work .entry)) r ⌝ }
+// The zone at one place, copied to a later place.
+pub(crate) fn copy(list: &mut [i32], from: usize, to: usize, size: usize)
+    requires { ⌜ (from < to) × (to * size + size ≤ length (now list)) ⌝ }
+    ensures { λ r. ⌜ now (list .exit) ≡ paste (now (list .entry)) (to * size) (numbersAt size (now (list .entry)) from) size ⌝ }
 {
-    let mut zone = [0i32; NUMBERS];
+    let source = from * size;
+    let goal = to * size;
     for p in 0..size {
-        let v = work[base + p];
-        zone[p] = v;
+        let v = list[source + p];
+        list[goal + p] = v;
     }
-    zone
 }

@@ -35,8 +35,8 @@ module _ (m : ℕ) (d : Matrix) (i j : ℕ) (b : Bound) (hj : j < m) where
       ne row (let place : i * m + l ≡ i * m + j = rw row at e in omega arith))
 
 -- a row that is f as it stands
-pub row-kept : (n : ℕ) (d : Matrix) (f : ℕ → Bound) (i : ℕ) → ((l : ℕ) → entry (suc n) d i l ≡ f l) → RowFilled n d d f i (suc n)
-row-kept n d f i e = record { done = λ l h k. e l; left = λ l h k. refl; others = λ k l h g ne. refl }
+pub row-kept : (n : ℕ) (d : Matrix) (f : ℕ → Bound) (i : ℕ) → ((l : ℕ) → l < suc n → entry (suc n) d i l ≡ f l) → RowFilled n d d f i (suc n)
+row-kept n d f i e = record { done = λ l h k. e l h; left = λ l h k. refl; others = λ k l h g ne. refl }
 
 -- a row, from its first place on
 pub row-start : (n : ℕ) (d : Matrix) (f : ℕ → Bound) (i : ℕ) → RowFilled n d d f i 0

@@ -75,6 +75,7 @@ module _ {n : ℕ} {z : List ℤ} {a b : ℕ} {c : ℤ} (t : TakingOne n z a b (
         row = hi;
         base = inside .col-fits;
         way-small = small;
+        closed = λ j hj. rw (row-same b (inside .col-fits), row-same j hj, base-same j hj) (t .taking .set .closed .triangle i j b hi hj (inside .col-fits));
         new-small = λ j hj. rw (via-here e j hj) (via-small i j hi hj);
       }
 

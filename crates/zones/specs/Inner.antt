@@ -7,7 +7,7 @@ use lib.IntN.{ℤ, natAbs}
 use lib.ListN.{length, getD}
 use Rattle.ints.specs.declared.Seconds.{Seconds}
 use Rattle.model.specs.Lists.{tabulate, Every}
-use Rattle.model.specs.Bound.{Bound, plus, tighter}
+use Rattle.model.specs.Bound.{Bound, LeB, plus, tighter}
 use Rattle.model.specs.Matrix.{Matrix, entry, Constraint}
 use Rattle.model.specs.Network.{Time, clocked}
 use Rattle.model.specs.Pattern.{pairBound}
@@ -43,6 +43,7 @@ pub record RelaxReady (n : ℕ) (z : List ℤ) (i b : ℕ) (way : Bound) : Type 
   pub row : i < suc n
   pub base : b < suc n
   pub way-small : Small (InMemory + LimitMost) way
+  pub closed : (j : ℕ) → j < suc n → LeB (entry (suc n) (boundsIn z) i j) (plus (entry (suc n) (boundsIn z) i b) (entry (suc n) (boundsIn z) b j))
   pub new-small : (j : ℕ) → j < suc n → Small Limit (across n (boundsIn z) i b way j)
 
 -- ---- constraints taken in one by one

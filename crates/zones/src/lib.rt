@@ -30,14 +30,11 @@ struct Choice {
     column: usize,
 }
 
-// Row i takes in what follows by way of row b; way bounds x(i) - x(b), and where it is blank nothing follows.
-fn relax_row(zone: &mut [i32], n: usize, i: usize, b: usize, way: Number)
+// Row i takes in what follows by way of row b, place by place; way bounds x(i) - x(b).
+fn relax_entries(zone: &mut [i32], n: usize, i: usize, b: usize, way: Number)
     requires { ⌜ RelaxReady n (now zone) i b (asBound way) ⌝ }
     ensures { λ r. ⌜ RowMade n (now (zone .entry)) (now (zone .exit)) (across n (boundsIn (now (zone .entry))) i b (asBound way)) i ⌝ }
 {
-    if let Number::Blank = way {
-        return;
-    }
     let mut j = 0;
     while j <= n {
         let old = bound_at(zone, n, i, j);
@@ -46,6 +43,20 @@ fn relax_row(zone: &mut [i32], n: usize, i: usize, b: usize, way: Number)
         put(zone, n, i, j, new);
         j += 1;
     }
+}
+
+// The same. Where way is blank, or the zone bounds x(i) - x(b) by it already, nothing follows, and the row is passed over.
+fn relax_row(zone: &mut [i32], n: usize, i: usize, b: usize, way: Number)
+    requires { ⌜ RelaxReady n (now zone) i b (asBound way) ⌝ }
+    ensures { λ r. ⌜ RowMade n (now (zone .entry)) (now (zone .exit)) (across n (boundsIn (now (zone .entry))) i b (asBound way)) i ⌝ }
+{
+    let Number::Secs(c) = way else {
+        return;
+    };
+    if bound_at(zone, n, i, b).implies(c) {
+        return;
+    }
+    relax_entries(zone, n, i, b, way)
 }
 
 // One more constraint, in place: x(a) - x(b) ≤ c. False where no times are left. Row b is not changed

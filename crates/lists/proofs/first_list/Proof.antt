@@ -1,99 +1,132 @@
--- What all times have in common with the target.
+-- What all times have in common with the target, in place.
 use borrow.Author.Needs.{needs}
 use borrow.Author.Tests.{not-true, not-false}
 use native.Mathlib.Omega.{arith}
-use mathlib.Core.Path.{_≡_, refl, sym, ap, _∙_}
+use Prim.Native.Nat.{suc, _≤_}
+use mathlib.Core.Path.{_≡_, sym, ap, _∙_}
+use mathlib.Core.List.{foldl, _++_}
 use mathlib.Core.Option.{some}
-use lib.ListN.{length, take}
+use lib.ListN.{length, take, drop}
 use Rattle.model.specs.Sizes.{zoneSize}
-use Rattle.model.specs.Matrix.{tighten}
-use Rattle.model.specs.Search.{common}
+use Rattle.model.specs.Matrix.{everything, constrain, tighten}
+use Rattle.model.specs.Pattern.{patternConstraints}
 use Rattle.model.proofs.Listed.{of-both}
-use Rattle.memory.proofs.Places.{zone-fits}
+use Rattle.memory.specs.Numbers.{boundsIn}
+use Rattle.zones.specs.Conditions.{Left}
 use Rattle.zones.proofs.Leaving.{left-none, left-some}
-use Rattle.lists.proofs.places.Zones.{beyond-same, stored-else, stored-at}
-use Rattle.lists.proofs.Arrays.{part-long}
+use Rattle.lists.specs.Inner.{Elsewhere}
+use Rattle.lists.proofs.places.Zones.{beyond-same, else-trans}
+use Rattle.lists.proofs.Fronts.{front-long, front-zone, front-is, front-at, front-else}
 use Rattle.lists.proofs.Starting.{common-ready, target-none, target-some}
 use Rattle.lists.proofs.first_list.Statement.{statement}
 use Rattle.lists.proofs.first_list.Tie as tie
 
-all-times-requires : tie.Need-all-times-requires
-all-times-requires c κs = c .pre .0 .limits .departures
-
-meet-requires : tie.Need-meet-requires
-meet-requires c κs =
-    let m = c .before .pre .0 in
-    (common-ready _ m (rw (c .all-times .ensures .0) (of-both (m .each) .0)), c .all-times .ensures .1)
-
-returns : tie.Need-returns
-unfolding tighten common
-returns c =
-    let m = c .before .before in
-    let a = m .before .before .args in
-    record {
-      list = target-none (a .n) (a .pattern .now) (a .work .now)
-          (left-none (rw (m .before .all-times .ensures .0) at (m .meet .ensures .left)) (not-true (m .meet .result .some) (c .if1 .taken)));
-      few = omega arith;
-      beyond = refl;
-    }
-
 zone-size-requires : tie.Need-zone-size-requires
 zone-size-requires c κs = search needs
 
--- the numbers of the zone in its array
-fits : (c : tie.After-zone-size) → length (take (c .zone-size .result) (c .before .before .before .before .meet .result .zone)) ≡ c .zone-size .result
-fits c =
-    let m = c .before .before .before .before in
-    part-long (m .before .before .pre .0 .limits .departures) (c .zone-size .ensures) (m .meet .result .zone) (m .meet .ensures .long)
+-- the first zone lies in the workspace
+inside : (c : tie.After-zone-size) → c .zone-size .result ≤ length (c .before .args .work .now)
+inside c = rw (c .zone-size .ensures) (c .before .pre .1)
 
-array-share-prefix-zone : tie.Need-array-share-prefix-zone
-array-share-prefix-zone c =
+slice-relend-prefix-everything : tie.Need-slice-relend-prefix-everything
+slice-relend-prefix-everything c = search needs
+
+slice-aggregate-everything : tie.Need-slice-aggregate-everything
+slice-aggregate-everything c = sym (front-long _ _ (inside (c .before)))
+
+everything-requires : tie.Need-everything-requires
+everything-requires c κs =
     let z = c .before in
-    let m = z .before .before .before .before in
-    omega (arith, zone-fits (m .before .before .pre .0 .limits .departures), z .zone-size .ensures, m .meet .ensures .long)
+    front-zone _ _ (inside z) (z .before .pre .0 .limits .departures) (z .zone-size .ensures)
 
-slice-aggregate-store : tie.Need-slice-aggregate-store
-slice-aggregate-store c = sym (fits (c .before .before))
-
-store-requires : tie.Need-store-requires
-store-requires c κs =
+-- lent again
+again : (c : tie.After-everything) →
     let z = c .before .before in
-    (fits z, omega (arith, z .zone-size .ensures, z .before .before .before .before .before .before .pre .1))
+    take (z .zone-size .result) (c .everything .last .0 ++ drop (z .zone-size .result) (z .before .args .work .now)) ≡ c .everything .last .0
+again c = front-is _ _ (inside (c .before .before)) _ (c .everything .kept .0)
+
+inside-2 : (c : tie.After-work) →
+    let e = c .before in
+    let z = e .before .before in
+    z .zone-size .result ≤ length (e .everything .last .0 ++ drop (z .zone-size .result) (z .before .args .work .now))
+inside-2 c = search needs
+
+slice-relend-prefix-common : tie.Need-slice-relend-prefix-common
+slice-relend-prefix-common c = search needs
+
+slice-aggregate-common : tie.Need-slice-aggregate-common
+slice-aggregate-common c = sym (front-long _ _ (inside-2 (c .before)))
+
+common-requires : tie.Need-common-requires
+common-requires c κs =
+    let e = c .before .before in
+    let m = e .before .before .before .pre .0 in
+    rw (again e) (common-ready _ m (rw (e .everything .ensures) (of-both (m .each) .0)))
+
+-- what is left
+target-left : (c : tie.After-common) →
+    let a = c .before .before .before .before .before .before .args in
+    Left (foldl (constrain (suc (a .n))) (some (everything (suc (a .n)))) (patternConstraints (a .n) (boundsIn (a .pattern .now))))
+    (c .common .result) (c .common .last .0)
+target-left c = let e = c .before .before .before in rw (again e, e .everything .ensures) at (c .common .ensures)
+
+-- only the first zone's numbers differ
+elsewhere : (c : tie.After-common) →
+    let e = c .before .before .before in
+    let z = e .before .before in
+    let a = z .before .args in
+    Elsewhere (zoneSize (a .n)) 0 (a .work .now)
+    (c .common .last .0 ++ drop (z .zone-size .result) (e .everything .last .0 ++ drop (z .zone-size .result) (a .work .now)))
+elsewhere c =
+    let e = c .before .before .before in
+    let z = e .before .before in
+    rw (← (z .zone-size .ensures))
+    (else-trans (front-else _ _ (inside z) (e .everything .last .0) (e .everything .kept .0))
+    (front-else _ _ (inside-2 (c .before .before)) (c .common .last .0) (c .common .kept .0)))
 
 same-length : tie.Need-same-length
 same-length c = search needs
 
-returns-2 : tie.Need-returns-2
-unfolding tighten common
-returns-2 c =
-    let s = c .before in
-    let z = s .before .before .before in
-    let e = z .before .before in
-    let m = e .before .before in
-    let b = m .before .before in
-    let a = b .args in
-    let size = z .zone-size .ensures in
-    let zone = take (zoneSize (a .n)) (m .meet .result .zone) in
-    let long : length zone ≡ zoneSize (a .n) = rw size at (fits z) in
-    let stored = stored-else (zoneSize (a .n)) 0 (a .work .now) zone long (omega (arith, b .pre .1)) in
-    let there = stored-at (zoneSize (a .n)) 0 (a .work .now) zone long (omega (arith, b .pre .1)) in
-    let target = left-some (rw (m .before .all-times .ensures .0) at (m .meet .ensures .left)) (not-false (m .meet .result .some) (e .if1 .left)) in
-    rw (s .store .ensures, size) (record {
-      list = target-some (a .n) (a .pattern .now) (a .work .now) stored (target ∙ ap some (sym there));
+returns : tie.Need-returns
+unfolding tighten
+returns c =
+    let t = c .before .before in
+    let a = t .before .before .before .before .before .before .args in
+    record {
+      list = target-none (a .n) (a .pattern .now) _ (left-none (target-left t) (not-true (t .common .result) (c .if1 .taken)));
       few = omega arith;
-      beyond = beyond-same stored (zoneSize (a .n)) (omega arith);
-    })
+      beyond = beyond-same (elsewhere t) (zoneSize (a .n)) (omega arith);
+    }
+
+same-length-2 : tie.Need-same-length-2
+same-length-2 c = search needs
+
+returns-2 : tie.Need-returns-2
+unfolding tighten
+returns-2 c =
+    let t = c .before .before in
+    let z = t .before .before .before .before .before in
+    let a = z .before .args in
+    let target = left-some (target-left t) (not-false (t .common .result) (c .if1 .left)) in
+    record {
+      list = target-some (a .n) (a .pattern .now) (a .work .now) (elsewhere t)
+          (rw (← (z .zone-size .ensures)) (target ∙ ap some (sym (front-at _ _ (inside-2 (t .before .before)) _ (t .common .kept .0)))));
+      few = omega arith;
+      beyond = beyond-same (elsewhere t) (zoneSize (a .n)) (omega arith);
+    }
 
 pub first-list-spec : {M : Type 1} → statement M
 first-list-spec =
     tie.close
     (tie.spec
-    all-times-requires
-    meet-requires
-    returns
     zone-size-requires
-    array-share-prefix-zone
-    slice-aggregate-store
-    store-requires
+    slice-relend-prefix-everything
+    slice-aggregate-everything
+    everything-requires
+    slice-relend-prefix-common
+    slice-aggregate-common
+    common-requires
     same-length
+    returns
+    same-length-2
     returns-2)

@@ -1,13 +1,18 @@
 -- A set met before adds nothing: all that further rows make of it is in the list already.
-use Prim.Native.Nat.{ℕ, suc, _-_}
+use Prim.Native.Nat.{ℕ, suc, _+_, _*_, _-_, _≤_, _<_}
+use native.Mathlib.Omega.{arith}
+use native.Mathlib.Decide.{ℕ-discrete}
 use mathlib.Core.Path.{_≡_, refl, ap, _∙_}
 use mathlib.Core.Logic.{⊎-elim}
-use mathlib.Core.Bool.{true}
+use mathlib.Core.Bool.{Bool, true, false, cond}
 use mathlib.Core.List.{List, [], _∷_, map, foldl}
 use mathlib.Core.Option.{Option, none, some}
 use lib.IntN.{ℤ}
-use lib.ListN.{getD}
-use Rattle.model.specs.Sizes.{zoneSize}
+use lib.Dec.{ltb}
+use lib.ListN.{length, getD, set, length-set}
+use lib.Seq.{getD-set-same, getD-set-other}
+use borrow.Author.Tests.{ltb-true}
+use Rattle.model.specs.Sizes.{mostDepartures, zoneSize}
 use Rattle.model.specs.Lists.{anyOf, Every, done, both, Some, here, there}
 use Rattle.model.specs.Matrix.{Matrix, sameMatrix}
 use Rattle.model.specs.Network.{Time}
@@ -20,10 +25,13 @@ use Rattle.model.proofs.Kept.{Put, empty, there-already, new, keep-is, kept-old
 use Rattle.model.proofs.Selections.{selections-sound}
 use Rattle.model.proofs.Images.{same-left}
 use Rattle.memory.specs.Numbers.{boundsIn, timesIn}
+use Rattle.lists.specs.Lists.{setsMet, placesMet, zoneAt}
 use Rattle.lists.specs.Selecting.{extensions}
-use Rattle.lists.specs.Met.{metIn, unmet, Noting, Old, Covered, Noted}
+use Rattle.lists.specs.Met.{freeAt, metIn, Counts, unmet, notedIn, Old, Covered, Noted}
+use Rattle.lists.specs.Inner.{Elsewhere}
+use Rattle.lists.proofs.places.Zones.{other-same}
 use Rattle.lists.proofs.Extensions.{extensions-none}
-use Rattle.lists.proofs.met.Seen.{unmet-none}
+use Rattle.lists.proofs.met.Seen.{unmet-none, free-other}
 
 -- ---- what is in a list and put to it again
 not-both : {X : Type 0} {P : X → Type 0} {xs : List X} → Every (λ x. P x → ⊥) xs → Some P xs → ⊥
@@ -68,6 +76,27 @@ module _ (n : ℕ) (a : List Time) (d : Matrix) {p : Matrix} {i : ℕ} where
       → foldl keep kept (extensions n a d (some p) cols i (suc n - i)) ≡ kept
   covered-again c b = rw (same-extensions b (c .before) (suc n - i)) (put-again (c .listed))
 
+-- ---- one set more is counted in row i
+module _ {counts : List ℕ} (few : Counts counts) {i : ℕ} (row : i ≤ mostDepartures) where
+  abbrev count : ℕ
+  count = getD counts i 0
+
+  abbrev counted : List ℕ
+  counted = set counts i (count + 1)
+
+  count-here : getD counted i 0 ≡ count + 1
+  count-here = getD-set-same counts i (count + 1) 0 (omega (arith, few .size))
+
+  counted-few : count < setsMet → Counts counted
+  counted-few more = record {
+    size = length-set counts i (count + 1) ∙ few .size;
+    few = λ j. elim (ℕ-discrete j i) [
+      | yes p ↦ rw (p, count-here) (omega arith)
+      | no p ↦ rw (getD-set-other counts i j (count + 1) 0 p) (few .few j)
+    ];
+  }
+
+-- ---- the sets noted
 module _ {n : ℕ} {times zone : List ℤ} {kept : List Matrix} {seen : List ℤ} {counts : List ℕ} (w : Noted n times zone kept seen counts) where
   -- the list grows
   pub noted-on : (os : List (Option Matrix)) → Noted n times zone (foldl keep kept os) seen counts
@@ -78,13 +107,36 @@ module _ {n : ℕ} {times zone : List ℤ} {kept : List Matrix} {seen : List ℤ
         record { cols = v .cols; before = v .before; listed = every-map (λ o old z e. kept-old kept os (old z e)) (v .listed) };
   }
 
-  -- one set more is noted
-  pub noted-more : {i : ℕ} {p : Matrix} {seen′ : List ℤ} {counts′ : List ℕ} → Noting (zoneSize n) i p seen seen′ counts counts′
-      → Covered n (timesIn times) (boundsIn zone) kept (suc i) p → Noted n times zone kept seen′ counts′
-  noted-more m v = record {
-    tables = m .tables;
-    covered = λ j c h. ⊎-elim (λ k. rw (k .1) (w .covered j c (k .0))) (λ k. rw (k .1, k .0) v) (m .each j c h);
+  -- a set is built at a free place
+  pub noted-placed : (i : ℕ) {seen′ : List ℤ} → Elsewhere (zoneSize n) (freeAt counts i) seen seen′ → length seen′ ≡ length seen
+      → Noted n times zone kept seen′ counts
+  noted-placed i e long = record {
+    tables = record { seen-size = long ∙ w .tables .seen-size; counted = w .tables .counted };
+    covered = λ j c h. rw (other-same e (j * placesMet + c) (free-other (w .tables) i j c h)) (w .covered j c h);
   }
+
+  -- and noted
+  module _ {i : ℕ} (row : i ≤ mostDepartures) (v : Covered n (timesIn times) (boundsIn zone) kept (suc i) (zoneAt (zoneSize n) seen (freeAt counts i))) where
+    covered-too : (j c : ℕ) → c < getD (set counts i (getD counts i 0 + 1)) j 0
+        → Covered n (timesIn times) (boundsIn zone) kept (suc j) (zoneAt (zoneSize n) seen (j * placesMet + c))
+    covered-too j c h = elim (ℕ-discrete j i) [
+      | yes p ↦ elim (ℕ-discrete c (getD counts i 0)) [
+        | yes q ↦ rw (p, q) v
+        | no q ↦ let less : c < getD counts i 0 + 1 = rw (p, count-here (w .tables .counted) row) at h in rw p (w .covered i c (omega arith))
+      ]
+      | no p ↦ w .covered j c (rw (getD-set-other counts i j (getD counts i 0 + 1) 0 p) at h)
+    ]
+
+    pub noted-more : Noted n times zone kept seen (notedIn counts i)
+    unfolding notedIn
+    noted-more = go (ltb (getD counts i 0) setsMet) refl
+      where
+        go : (b : Bool) → ltb (getD counts i 0) setsMet ≡ b → Noted n times zone kept seen (cond b (set counts i (getD counts i 0 + 1)) counts)
+        go true e = record {
+          tables = record { seen-size = w .tables .seen-size; counted = counted-few (w .tables .counted) row (ltb-true _ _ e) };
+          covered = covered-too;
+        }
+        go false e = w
 
   -- a set met is covered
   noted-met : (i : ℕ) (p : Matrix) → anyOf (sameMatrix p) (metIn (zoneSize n) seen counts i) ≡ true → Covered n (timesIn times) (boundsIn zone) kept (suc i) p

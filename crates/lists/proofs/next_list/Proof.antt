@@ -1,32 +1,35 @@
--- Zone by zone of the list at source.
+-- Zone by zone of the list at source, each copied out first.
 use native.Mathlib.Omega.{arith}
 use Prim.Native.Nat.{_+_, _*_, _-_, _≤_}
 use mathlib.Core.Path.{_≡_, sym, ap, _∙_}
-use mathlib.Core.List.{List, foldl}
+use mathlib.Core.List.{List, _++_, foldl}
 use lib.IntN.{ℤ}
-use lib.ListN.{length, drop}
+use lib.ListN.{length, take, drop}
 use Rattle.model.specs.Sizes.{zoneSize}
 use Rattle.model.specs.Search.{keep}
+use Rattle.memory.specs.Numbers.{boundsIn}
 use Rattle.memory.proofs.Places.{zone-fits}
-use Rattle.lists.specs.Lists.{seenSize, zoneAt, listIn, partIn, ListHeld}
-use Rattle.lists.proofs.Arrays.{loaded-is}
+use Rattle.lists.specs.Lists.{seenSize, zoneAt, listIn, ListHeld}
+use Rattle.lists.proofs.Fronts.{front-long, front-zone, front-room, front-is, source-long, loaded-is}
 use Rattle.lists.proofs.Pulling.{lent-is, put-is, backOf, Pulling, pulling-start, goal-fits, goal-room, source-place, source-same, source-one}
-use Rattle.lists.proofs.Pulling.{front-is, long-is, pulling-on, pulling-full, pulling-done}
+use Rattle.lists.proofs.Pulling.{front-is as work-front, long-is, pulling-on, pulling-full, pulling-done}
 use Rattle.lists.proofs.next_list.Statement.{statement}
 use Rattle.lists.proofs.next_list.Tie as tie
 
 abbrev Inv-loop : tie.InvT-loop
-Inv-loop work₀ source goal count capacity times seen₀ n size built₀ k₀ work seen built k =
-    Pulling n capacity count source goal times work₀ work built k × (length seen ≡ seenSize)
+Inv-loop work₀ source goal count capacity times seen₀ n size zone₀ built₀ k₀ work seen zone built k =
+    Pulling n capacity count source goal times work₀ work built k × (length seen ≡ seenSize) × (size ≤ length zone)
 
 abbrev μ-loop : tie.MeasureT-loop
-μ-loop work₀ source goal count capacity times seen₀ n size built₀ k₀ work seen built k = count - k
+μ-loop work₀ source goal count capacity times seen₀ n size zone₀ built₀ k₀ work seen zone built k = count - k
 
 zone-size-requires : tie.Need-zone-size-requires Inv-loop μ-loop
 zone-size-requires c κs = c .pre .sources .table .departures .few
 
 loop-holds : tie.Need-loop-holds Inv-loop μ-loop
-loop-holds c = let p = c .before .pre in (pulling-start p, p .seen-size)
+loop-holds c =
+    let p = c .before .pre in
+    (pulling-start p, p .seen-size, omega (arith, zone-fits (p .sources .table .departures), c .zone-size .ensures))
 
 -- the zone's place
 place : (c : tie.In-loop Inv-loop μ-loop) →
@@ -38,80 +41,104 @@ place c = let z = c .before .before in rw (z .zone-size .ensures) (source-place 
 goal-in : (c : tie.In-loop Inv-loop μ-loop) → c .before .before .before .args .goal ≤ length (c .before .loop .work)
 goal-in c = goal-fits (c .before .before .before .pre) (c .before .loop .inv .0)
 
-mul-load : tie.Need-mul-load Inv-loop μ-loop
-mul-load c = omega (arith, place (c .before), c .before .before .before .before .good .0 .0, c .before .before .loop .inv .0 .long)
+mul-from : tie.Need-mul-from Inv-loop μ-loop
+mul-from c = omega (arith, place c, c .before .before .before .good .0 .0, c .before .loop .inv .0 .long)
 
-add-load : tie.Need-add-load Inv-loop μ-loop
-add-load c = omega (arith, place (c .before), c .before .before .before .before .good .0 .0, c .before .before .loop .inv .0 .long)
+add-from : tie.Need-add-from Inv-loop μ-loop
+add-from c = omega (arith, place c, c .before .before .before .good .0 .0, c .before .loop .inv .0 .long)
 
-load-requires : tie.Need-load-requires Inv-loop μ-loop
-load-requires c κs =
-    let z = c .before .before .before in
-    (omega (arith, zone-fits (z .before .pre .sources .table .departures), z .zone-size .ensures), place (c .before))
+add-to : tie.Need-add-to Inv-loop μ-loop
+add-to c = omega (arith, place c, c .before .before .before .good .0 .0, c .before .loop .inv .0 .long)
 
--- the zone loaded is that of the list
-loaded : (c : tie.After-load Inv-loop μ-loop) →
-    let l = c .before .before .before in
+slice-aggregate-store : tie.Need-slice-aggregate-store Inv-loop μ-loop
+slice-aggregate-store c = sym (front-long _ _ (c .before .before .loop .inv .2))
+
+mul-store : tie.Need-mul-store Inv-loop μ-loop
+mul-store c = omega (arith, place (c .before), c .before .before .before .before .good .0 .0, c .before .before .loop .inv .0 .long)
+
+store-requires : tie.Need-store-requires Inv-loop μ-loop
+store-requires c κs =
+    let i = c .before .before .before in
+    let l = i .before .loop in
+    (source-long _ _ _ _ (place i), omega (arith, front-long _ (l .zone) (l .inv .2)))
+
+-- it is the zone of the list
+loaded : (c : tie.After-store Inv-loop μ-loop) →
+    let l = c .before .before .before .before .before in
     let a = l .before .before .args in
-    partIn (a .n) (c .load .result) ≡ zoneAt (zoneSize (a .n)) (drop (a .source) (a .work .now)) (l .loop .k)
+    boundsIn (c .store .last .0) ≡ zoneAt (zoneSize (a .n)) (drop (a .source) (a .work .now)) (l .loop .k)
+unfolding zoneAt
 loaded c =
-    let i = c .before .before in
+    let i = c .before .before .before .before in
     let l = i .before in
-    let b = l .before .before in
-    loaded-is (b .args .n) (b .args .source) (l .loop .k) (l .loop .work) (rw (l .before .zone-size .ensures) at (c .load .ensures))
-    ∙ source-same (b .pre) (l .loop .inv .0) (i .loop-test .taken)
+    let z = l .before in
+    rw (← source-same (z .before .pre) (l .loop .inv .0) (i .loop-test .taken), ← (z .zone-size .ensures))
+    (ap boundsIn (c .store .ensures ∙ loaded-is _ _ _ _ (place i) _ (front-long _ _ (l .loop .inv .2))))
+
+-- lent
+lent : (c : tie.After-store Inv-loop μ-loop) →
+    let l = c .before .before .before .before .before in
+    let size = l .before .zone-size .result in
+    take size (c .store .last .0 ++ drop size (l .loop .zone)) ≡ c .store .last .0
+lent c = front-is _ _ (c .before .before .before .before .before .loop .inv .2) _ (c .store .kept .0)
+
+room : (c : tie.After-store Inv-loop μ-loop) →
+    let l = c .before .before .before .before .before in
+    let size = l .before .zone-size .result in
+    size ≤ length (c .store .last .0 ++ drop size (l .loop .zone))
+room c = front-room _ _ (c .before .before .before .before .before .loop .inv .2) (c .store .last .0) (c .store .kept .0)
 
 mul-pull-back : tie.Need-mul-pull-back Inv-loop μ-loop
 mul-pull-back c =
-    let l = c .before .before .before in
-    omega (arith, goal-in (c .before .before), l .before .before .good .0 .1, l .loop .inv .0 .long)
+    let i = c .before .before .before .before .before in
+    omega (arith, goal-in i, i .before .before .before .good .0 .1, i .before .loop .inv .0 .long)
 
-sub-pull-back : tie.Need-sub-pull-back Inv-loop μ-loop
-sub-pull-back c = goal-in (c .before .before)
-
-part-pull-back-start : tie.Need-part-pull-back-start Inv-loop μ-loop
-part-pull-back-start c = goal-in (c .before .before)
-
-part-pull-back-end : tie.Need-part-pull-back-end Inv-loop μ-loop
-part-pull-back-end c = omega arith
+slice-aggregate-pull-back : tie.Need-slice-aggregate-pull-back Inv-loop μ-loop
+slice-aggregate-pull-back c = sym (front-long _ _ (room (c .before .before .before)))
 
 pull-back-requires : tie.Need-pull-back-requires Inv-loop μ-loop
 pull-back-requires c κs =
-    let d = c .before .before in
-    let i = d .before .before in
+    let s = c .before .before .before .before in
+    let i = s .before .before .before .before in
     let l = i .before in
-    let b = l .before .before in
+    let z = l .before in
+    let b = z .before in
     record {
       room = rw (lent-is (b .args .goal) (l .loop .work)) (goal-room (b .pre) (l .loop .inv .0));
-      sources = source-one (b .pre) (l .loop .inv .0) (i .loop-test .taken) (loaded d);
-      zone-size = d .load .ensures .long;
+      sources = source-one (b .pre) (l .loop .inv .0) (i .loop-test .taken) (ap boundsIn (lent s) ∙ loaded s);
+      source = front-zone _ _ (room s) (b .pre .sources .table .departures) (z .zone-size .ensures);
       seen-size = l .loop .inv .1;
     }
 
 -- zone k, pulled back
 held : (c : tie.After-pull-back Inv-loop μ-loop) →
-    let l = c .before .before .before .before .before .before in
+    let l = c .before .before .before .before .before .before .before .before .before .before in
     let a = l .before .before .args in
     ListHeld (zoneSize (a .n)) (a .capacity)
     (foldl keep (listIn (zoneSize (a .n)) (l .loop .built .count) (drop (a .goal) (l .loop .work)))
     (backOf (a .n) (a .times .now) (zoneAt (zoneSize (a .n)) (drop (a .source) (a .work .now)) (l .loop .k))))
     (c .pull-back .result) (drop (a .goal) (l .loop .work)) (c .pull-back .last .0)
 held c =
-    let d = c .before .before .before in
-    let l = d .before .before .before in
-    rw (lent-is (l .before .before .args .goal) (l .loop .work), loaded d) at (c .pull-back .ensures)
+    let s = c .before .before .before .before .before in
+    let l = s .before .before .before .before .before in
+    rw (lent-is (l .before .before .args .goal) (l .loop .work), lent s, loaded s) at (c .pull-back .ensures)
 
 same : (c : tie.After-pull-back Inv-loop μ-loop) →
-    let l = c .before .before .before .before .before .before in
+    let l = c .before .before .before .before .before .before .before .before .before .before in
     length (c .pull-back .last .0) ≡ length (drop (l .before .before .args .goal) (l .loop .work))
 same c =
-    let l = c .before .before .before .before .before .before in
+    let l = c .before .before .before .before .before .before .before .before .before .before in
     c .pull-back .kept .0 ∙ ap (λ (l : List ℤ). length l) (lent-is (l .before .before .args .goal) (l .loop .work))
+
+seen-same : (c : tie.After-pull-back Inv-loop μ-loop) → length (c .pull-back .last .1 .1 .1 .1 .1 .0) ≡ seenSize
+seen-same c =
+    let l = c .before .before .before .before .before .before .before .before .before .before in
+    c .pull-back .kept .1 .1 .1 .1 .1 .0 ∙ l .loop .inv .1
 
 same-length : tie.Need-same-length Inv-loop μ-loop
 same-length c =
     let p = c .before .before .before in
-    let i = p .before .before .before .before .before in
+    let i = p .before .before .before .before .before .before .before .before .before in
     let l = i .before in
     let b = l .before .before in
     ap (λ (l : List ℤ). length l) (put-is (b .args .goal) (l .loop .work) (p .pull-back .last .0))
@@ -120,41 +147,34 @@ same-length c =
 same-length-2 : tie.Need-same-length-2 Inv-loop μ-loop
 same-length-2 c =
     let p = c .before .before .before in
-    let l = p .before .before .before .before .before .before in
-    p .pull-back .kept .1 .1 .1 .1 .1 .0 ∙ l .loop .inv .1 ∙ sym (l .before .before .pre .seen-size)
+    let l = p .before .before .before .before .before .before .before .before .before .before in
+    seen-same p ∙ sym (l .before .before .pre .seen-size)
 
 returns : tie.Need-returns Inv-loop μ-loop
 returns c =
     let p = c .before .before .before in
-    let i = p .before .before .before .before .before in
+    let i = p .before .before .before .before .before .before .before .before .before in
     let l = i .before in
     let b = l .before .before in
     let out = p .pull-back .last .0 in
     rw (put-is (b .args .goal) (l .loop .work) out) (record {
       list = pulling-full (b .pre) (l .loop .inv .0) (i .loop-test .taken) out (same p) (held p) (c .if1 .taken);
-      front = front-is (b .pre) (l .loop .inv .0) (i .loop-test .taken) out (same p) (held p);
+      front = work-front (b .pre) (l .loop .inv .0) (i .loop-test .taken) out (same p) (held p);
       seen-size = same-length-2 c;
     })
-
-add-k : tie.Need-add-k Inv-loop μ-loop
-add-k c = omega arith
-
-loop-less : tie.Need-loop-less Inv-loop μ-loop
-loop-less c = omega arith
 
 loop-again : tie.Need-loop-again Inv-loop μ-loop
 loop-again c =
     let p = c .before .before .before in
-    let i = p .before .before .before .before .before in
+    let s = p .before .before .before .before .before in
+    let i = s .before .before .before .before in
     let l = i .before in
     let b = l .before .before in
     let out = p .pull-back .last .0 in (
       rw (put-is (b .args .goal) (l .loop .work) out) (pulling-on (b .pre) (l .loop .inv .0) (i .loop-test .taken) out (same p) (held p) (c .if1 .left)),
-      p .pull-back .kept .1 .1 .1 .1 .1 .0 ∙ l .loop .inv .1,
+      seen-same p,
+      room s,
     )
-
-same-length-3 : tie.Need-same-length-3 Inv-loop μ-loop
-same-length-3 c = c .before .loop .inv .0 .long
 
 same-length-4 : tie.Need-same-length-4 Inv-loop μ-loop
 same-length-4 c = c .before .loop .inv .1 ∙ sym (c .before .before .before .pre .seen-size)
@@ -176,20 +196,29 @@ next-list-spec =
     μ-loop
     zone-size-requires
     loop-holds
-    mul-load
-    add-load
-    load-requires
+    mul-from
+    add-from
+    add-to
+    (λ c. c .before .loop .inv .2)
+    slice-aggregate-store
+    mul-store
+    (λ c. omega arith)
+    (λ c. omega (arith, place (c .before .before)))
+    (λ c. place (c .before .before))
+    store-requires
     mul-pull-back
-    sub-pull-back
-    part-pull-back-start
-    part-pull-back-end
+    (λ c. goal-in (c .before .before .before .before .before))
+    (λ c. goal-in (c .before .before .before .before .before))
+    (λ c. omega arith)
+    (λ c. room (c .before .before))
+    slice-aggregate-pull-back
     pull-back-requires
     same-length
     same-length-2
     returns
-    add-k
-    loop-less
+    (λ c. omega arith)
+    (λ c. omega arith)
     loop-again
-    same-length-3
+    (λ c. c .before .loop .inv .0 .long)
     same-length-4
     returns-2)

@@ -3,15 +3,18 @@ use Prim.Native.Nat.{ℕ, zero, suc, _+_, _*_, _-_, _≤_, _<_}
 use native.Mathlib.Omega.{arith}
 use native.Mathlib.Decide.{decLt, ℕ-discrete}
 use native.Mathlib.Nat.{mul-le-mul-right, suc-mul}
+use native.Mathlib.Numerals.{add-one}
 use mathlib.Core.Path.{_≡_, refl, sym, ap, ap₂, _∙_}
 use mathlib.Core.Bool.{Bool, true, false, cond, _||_}
 use mathlib.Core.List.{List, [], _∷_, _++_, append-assoc}
 use lib.IntN.{ℤ, pos}
-use lib.ListN.{length, take, drop, getD, length-take, length-drop}
-use lib.Seq.{getD-take, getD-drop, drop-drop, take-all, take-take, take-at, drop-at, length-take-le, ext-getD, paste, drop-paste}
+use lib.ListN.{length, take, drop, getD, set, length-take, length-drop, length-set, List·getD-append}
+use lib.Seq.{getD-take, getD-drop, drop-drop, take-all, take-take, take-at, drop-at, length-take-le, ext-getD}
+use lib.Seq.{paste, paste-zero, paste-suc, drop-paste, length-paste-head}
 use lib.Dec.{eqb}
 use borrow.Author.Tests.{eqb-true, eq-eqb}
-use mir.Syntax.{Width}
+use borrow.Rule.Slice.PartMut.{putMid, take-put, drop-put}
+use mir.Syntax.{Width, w32}
 use mir.Val.{SFits, toZ, ofZ}
 use mir.ValLaws.{toZ-ofZ}
 use Rattle.ints.proofs.Integers.{impossible}
@@ -23,7 +26,8 @@ use Rattle.model.proofs.Tabulated.{tabulate-ext, tabulate-snoc}
 use Rattle.model.proofs.Same.{sameZ-true, sameZ-refl, sameMatrix-true, sameMatrix-refl}
 use Rattle.memory.specs.Numbers.{noneIn, boundIn, boundsIn}
 use Rattle.memory.proofs.Places.{getD-bounds}
-use Rattle.lists.specs.Lists.{zoneAt, listIn}
+use Rattle.lists.specs.Lists.{numbersAt, zoneAt, listIn}
+use Rattle.lists.specs.Inner.{Elsewhere}
 
 -- ---- equal numbers
 same-test : (s t : Bool) → (s ≡ true → t ≡ true) → (t ≡ true → s ≡ true) → s ≡ t
@@ -48,16 +52,19 @@ boundIn-injective a b e = go (sameZ a (pos noneIn)) (sameZ b (pos noneIn)) refl 
     go false true p q e = cc
     go false false p q e = cc
 
+pub length-numbers : (size : ℕ) (list : List ℤ) (k : ℕ) → k * size + size ≤ length list → length (numbersAt size list k) ≡ size
+length-numbers size list k inside = rw (length-take size (drop (k * size) list), length-drop (k * size) list) (omega arith)
+
 -- ---- a zone against that at place k, the last number first
 abbrev pub SameFrom : ℕ → List ℤ → ℕ → List ℤ → ℕ → Type 0
 SameFrom size list k zone p = (q : ℕ) → p ≤ q → q < size → getD zone q (pos 0) ≡ getD list (k * size + q) (pos 0)
 
 module _ (size : ℕ) (list : List ℤ) (k : ℕ) (zone : List ℤ) (fits : length zone ≡ size) (inside : k * size + size ≤ length list) where
   abbrev there : List ℤ
-  there = take size (drop (k * size) list)
+  there = numbersAt size list k
 
   there-long : length there ≡ size
-  there-long = rw (length-take size (drop (k * size) list), length-drop (k * size) list) (omega arith)
+  there-long = length-numbers size list k inside
 
   getD-there : (p : ℕ) → p < size → getD there p (pos 0) ≡ getD list (k * size + p) (pos 0)
   getD-there p h = getD-take size (drop (k * size) list) p (pos 0) h ∙ getD-drop (k * size) list p (pos 0)
@@ -106,11 +113,7 @@ part-of zero (suc j) s l h = absurd (omega arith)
 part-of (suc t) (suc j) s [] h = refl
 part-of (suc t) (suc j) s (x ∷ l) h = part-of t j s l (omega arith)
 
--- ---- of a list, only the numbers of place k may differ
-pub record Elsewhere (size k : ℕ) (before after : List ℤ) : Type 0 where
-  pub front : take (k * size) after ≡ take (k * size) before
-  pub back : drop (k * size + size) after ≡ drop (k * size + size) before
-
+-- ---- where only the numbers of place k differ
 module _ {size k : ℕ} {before after : List ℤ} (e : Elsewhere size k before after) where
   pub beyond-same : (m : ℕ) → k * size + size ≤ m → drop m after ≡ drop m before
   beyond-same m h =
@@ -132,14 +135,67 @@ module _ {size k : ℕ} {before after : List ℤ} (e : Elsewhere size k before a
           let more : k < j = omega arith in
           ap (take size) (beyond-same (j * size) (omega (arith, mul-le-mul-right size more, suc-mul k size)))
 
-  -- a list of k zones, and one more
+  -- the zones before it, and one more
+  pub list-same : listIn size k after ≡ listIn size k before
+  unfolding listIn
+  list-same = tabulate-ext k 0 _ _ (λ j l u. other-same j (λ is. omega arith))
+
   pub list-more : listIn size (k + 1) after ≡ listIn size k before ++ (zoneAt size after k ∷ [])
   unfolding listIn
   list-more =
       let s : k + 1 ≡ suc k = omega arith in
       let z : 0 + k ≡ k = omega arith in
-      rw s (sym (tabulate-snoc k 0 (zoneAt size after))
-      ∙ ap₂ (λ (l : List Matrix) (m : Matrix). l ++ (m ∷ [])) (tabulate-ext k 0 _ _ (λ j l u. other-same j (λ is. omega arith))) (ap (zoneAt size after) z))
+      rw s (sym (tabulate-snoc k 0 (zoneAt size after)) ∙ ap₂ (λ (l : List Matrix) (m : Matrix). l ++ (m ∷ [])) list-same (ap (zoneAt size after) z))
+
+pub else-refl : {size k : ℕ} {list : List ℤ} → Elsewhere size k list list
+else-refl = record { front = refl; back = refl }
+
+pub else-trans : {size k : ℕ} {before between after : List ℤ} → Elsewhere size k before between → Elsewhere size k between after → Elsewhere size k before after
+else-trans e f = record { front = f .front ∙ e .front; back = f .back ∙ e .back }
+
+-- ---- the part at place k, lent and given back
+pub lent-at : (size k : ℕ) (list : List ℤ) → take (k * size + size - k * size) (drop (k * size) list) ≡ numbersAt size list k
+lent-at size k list = let e : k * size + size - k * size ≡ size = omega arith in rw e
+
+module _ (size k : ℕ) (list out : List ℤ) (inside : k * size + size ≤ length list) (fits : length out ≡ size) where
+  abbrev given-back : List ℤ
+  given-back = putMid (k * size) (k * size + size - k * size) list out
+
+  pub back-else : Elsewhere size k list given-back
+  back-else = record {
+    front = take-put (k * size) (k * size + size - k * size) list out (omega arith);
+    back = drop-put (k * size) (k * size + size) list out (omega arith) inside (omega arith);
+  }
+
+  pub back-at : numbersAt size given-back k ≡ out
+  back-at =
+      ap (take size) (drop-at (take (k * size) list) _ (k * size) (length-take-le (k * size) list (omega arith))) ∙ take-at out _ size fits
+
+-- ---- the first p numbers of a zone are copied, to base on
+pub record Copying (list₀ : List ℤ) (base : ℕ) (zone list : List ℤ) (p : ℕ) : Type 0 where
+  pub is : list ≡ paste list₀ base zone p
+  pub long : length list ≡ length list₀
+
+pub copying-start : (list : List ℤ) (base : ℕ) (zone : List ℤ) → Copying list base zone list 0
+copying-start list base zone = record { is = paste-zero list base zone; long = refl }
+
+module _ {list₀ : List ℤ} {base : ℕ} {zone list : List ℤ} {p : ℕ} (c : Copying list₀ base zone list p) where
+  -- one number more
+  pub copying-more : (x : ℤ) → SFits w32 x → x ≡ getD zone p (pos 0) → base + p < length list₀ → p < length zone
+      → Copying list₀ base zone (set list (base + p) (toZ w32 (ofZ w32 x))) (p + 1)
+  copying-more x f e inside in-zone = record {
+    is = rw (toZ-ofZ w32 x f, e, c .is, add-one p) (paste-suc list₀ base zone p (pos 0) inside in-zone);
+    long = length-set list (base + p) _ ∙ c .long;
+  }
+
+  -- those before base are as they were
+  pub copying-before : (j : ℕ) → j < base → base ≤ length list₀ → p ≤ length zone → getD list j (pos 0) ≡ getD list₀ j (pos 0)
+  copying-before j h inside in-zone =
+      let head = length-paste-head list₀ base zone p inside in-zone in
+      ap (λ (l : List ℤ). getD l j (pos 0)) (c .is)
+      ∙ List·getD-append (take base list₀ ++ take p zone) (drop (base + p) list₀) (pos 0) j (rw head (omega arith))
+      ∙ List·getD-append (take base list₀) (take p zone) (pos 0) j (rw (length-take-le base list₀ inside) h)
+      ∙ getD-take base list₀ j (pos 0) h
 
 -- ---- a store at place k
 module _ (size k : ℕ) (list zone : List ℤ) (fits : length zone ≡ size) (inside : k * size + size ≤ length list) where

@@ -1,47 +1,68 @@
 -- From the set of all times and the clock's column on, row 1 first.
 use borrow.Author.Needs.{needs}
-use mathlib.Core.Path.{refl, sym}
-use Rattle.memory.specs.Numbers.{timesIn}
-use Rattle.lists.specs.Lists.{partIn}
-use Rattle.lists.proofs.Arrays.{part-room, part-long, part-zone}
-use Rattle.lists.proofs.Starting.{first-set, none-noted, preimages}
+use native.Mathlib.Omega.{arith}
+use Prim.Native.Nat.{suc, _≤_}
+use mathlib.Core.Path.{_≡_, sym, _∙_}
+use mathlib.Core.List.{_++_}
+use lib.ListN.{length, drop}
+use lib.Seq.{length-front}
+use Rattle.model.specs.Sizes.{zoneSize}
+use Rattle.model.specs.Matrix.{everything}
+use Rattle.memory.proofs.Places.{zone-fits}
+use Rattle.lists.specs.Lists.{seenSize, zoneAt}
+use Rattle.lists.proofs.Fronts.{front-long, front-zone, front-at}
+use Rattle.lists.proofs.Starting.{row-one, none-noted, preimages}
 use Rattle.lists.proofs.pull_back.Statement.{statement}
 use Rattle.lists.proofs.pull_back.Tie as tie
 
 zone-size-requires : tie.Need-zone-size-requires
-zone-size-requires c κs = c .pre .sources .table .departures .few
+zone-size-requires c κs = search needs
 
-all-times-requires : tie.Need-all-times-requires
-all-times-requires c κs = c .before .pre .sources .table .departures
+-- the table has room for the first set
+inside : (c : tie.After-zone-size) → c .zone-size .result ≤ length (c .before .args .seen .now)
+inside c = let p = c .before .pre in omega (arith, zone-fits (p .sources .table .departures), c .zone-size .ensures, p .seen-size)
 
-array-share-prefix-zone : tie.Need-array-share-prefix-zone
-array-share-prefix-zone c =
+slice-relend-prefix-everything : tie.Need-slice-relend-prefix-everything
+slice-relend-prefix-everything c = inside c
+
+slice-aggregate-everything : tie.Need-slice-aggregate-everything
+slice-aggregate-everything c = sym (front-long _ _ (inside (c .before)))
+
+everything-requires : tie.Need-everything-requires
+everything-requires c κs =
+    let z = c .before in
+    front-zone _ _ (inside z) (z .before .pre .sources .table .departures) (z .zone-size .ensures)
+
+-- the table with that set
+long : (c : tie.After-everything) →
     let z = c .before .before in
-    part-room (z .before .pre .sources .table .departures) (z .zone-size .ensures) (z .before .args .t5) (z .before .pre .zone-size)
+    length (c .everything .last .0 ++ drop (z .zone-size .result) (z .before .args .seen .now)) ≡ seenSize
+long c =
+    let z = c .before .before in
+    length-front (z .before .args .seen .now) (c .everything .last .0) (z .zone-size .result) (c .everything .kept .0) ∙ z .before .pre .seen-size
+
+first : (c : tie.After-everything) →
+    let z = c .before .before in
+    let a = z .before .args in
+    zoneAt (zoneSize (a .n)) (c .everything .last .0 ++ drop (z .zone-size .result) (a .seen .now)) 0 ≡ everything (suc (a .n))
+first c =
+    let z = c .before .before in
+    rw (← (z .zone-size .ensures)) (front-at _ _ (inside z) _ (c .everything .kept .0) ∙ c .everything .ensures)
 
 slice-aggregate-select : tie.Need-slice-aggregate-select
-slice-aggregate-select c =
-    let z = c .before .before .before in
-    sym (part-long (z .before .pre .sources .table .departures) (z .zone-size .ensures) (z .before .args .t5) (z .before .pre .zone-size))
+slice-aggregate-select c = search needs
 
 slice-aggregate-select-2 : tie.Need-slice-aggregate-select-2
 slice-aggregate-select-2 c = search needs
 
 select-requires : tie.Need-select-requires
 select-requires c κs =
-    let e = c .before .before .before .before in
-    let z = e .before in
-    let b = z .before in
+    let e = c .before .before .before .before .before in
+    let p = e .before .before .before .pre in
     record {
-      room = b .pre .room;
-      start = record {
-        selecting =
-            let zone = part-zone (b .pre .sources .table .departures) (z .zone-size .ensures) (b .args .t5) (b .pre .zone-size) in
-            rw (e .all-times .ensures .0) (first-set (rw (z .zone-size .ensures) (b .pre .sources)) zone);
-        part-size = e .all-times .ensures .1;
-        cols-size = refl;
-      };
-      noted = none-noted (b .pre .seen-size);
+      room = p .room;
+      ready = row-one (p .sources) (p .source) _ (long e) (first e);
+      noted = none-noted (p .sources) (p .source) _ (long e) (first e);
     }
 
 same-length : tie.Need-same-length
@@ -52,19 +73,19 @@ same-length-2 c = search needs
 
 returns : tie.Need-returns
 returns c =
-    let e = c .before .before .before .before .before .before .before .before in
-    let z = e .before in
-    let a = z .before .args in
-    rw (← (preimages (a .n) (timesIn (a .times .now)) (partIn (a .n) (a .t5))), ← (e .all-times .ensures .0))
-    (rw (z .zone-size .ensures) at (c .before .before .before .select .ensures .held))
+    let s = c .before .before .before .before in
+    let e = s .before .before .before .before .before .before in
+    let p = e .before .before .before .pre in
+    rw (preimages (p .sources) (p .source) _ (long e) (first e)) at (s .select .ensures .held)
 
 pub pull-back-spec : {M : Type 1} → statement M
 pull-back-spec =
     tie.close
     (tie.spec
     zone-size-requires
-    all-times-requires
-    array-share-prefix-zone
+    slice-relend-prefix-everything
+    slice-aggregate-everything
+    everything-requires
     slice-aggregate-select
     slice-aggregate-select-2
     select-requires

@@ -1,0 +1,27 @@
+#!/bin/sh
+# Compares two archives of the library on the families whose names have one of
+# the words:
+#
+#     bench/compare.sh BEFORE.a AFTER.a WORD...
+#
+# The benchmark is built with each, in target/compare/before and
+# target/compare/after, and `bench compare` is run. In both builds each function
+# of the archive begins a page: where the linker puts it otherwise made
+# differences of up to 8 % between two builds with the same archive.
+set -eu
+before=$(realpath "$1")
+after=$(realpath "$2")
+shift 2
+cd "$(dirname "$0")"
+folder=$PWD/target/compare
+
+build() {
+    mkdir -p "$folder/$1"
+    functions=$(objdump -h "$2" | awk '$2 ~ /^\.text\../ { print $2 }')
+    objcopy $(printf -- '--set-section-alignment %s=4096 ' $functions) "$2" "$folder/$1/libembed.a"
+    EMBED_DIR=$folder/$1 cargo build --quiet --release --offline --target-dir "$folder/$1"
+}
+
+build before "$before"
+build after "$after"
+exec "$folder/after/release/bench" compare "$folder/before/release/bench" "$@"
