@@ -10,7 +10,8 @@
  *   *value    k for TRAMCHECK_REACHED, N for TRAMCHECK_CLEAR, 0 for TRAMCHECK_NEVER, what the fault returns for TRAMCHECK_REFUSED:
  *             its place, the cycle of 11 (table full) and 12 (bound too large), the departure of 13, the bytes needed of 14, or 0;
  *             for TRAMCHECK_DONE the number of bytes written or read, 0 for a change committed;
- *   the seven times  the start that reaches the target, departures 1 to n first; 0 beyond n and for every other verdict.
+ *   the seven times  a start that reaches the target, the latest of its zone: departures 1 to n in turn, each the latest possible given those
+ *             before it, the earliest if there is no latest, 0 if there is neither; 0 beyond n and for every other verdict.
  */
 #ifndef TRAMCHECK_H
 #define TRAMCHECK_H

@@ -78,13 +78,13 @@ impl<const M: usize> Zone<M> {
     }
 
     /// The start picked, and the set brought down to it: for each departure in
-    /// turn the least time; if there is no least, the greatest; if neither, 0.
+    /// turn the greatest time; if there is no greatest, the least; if neither, 0.
     pub fn pick(&mut self) -> Result<[i64; 7], Empty> {
         let mut times = [0; 7];
         for i in 1..M {
             let time = match (self.bound(0, i), self.bound(i, 0)) {
-                (Some(below), _) => -below,
-                (None, Some(greatest)) => greatest,
+                (_, Some(greatest)) => greatest,
+                (Some(below), None) => -below,
                 (None, None) => 0,
             };
             self.constrain(i, 0, time)?;

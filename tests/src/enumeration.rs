@@ -1,6 +1,7 @@
 //! Brute search 1: whole-second starts of a box, put forward step by step.
 
 use crate::case::{pair, Case, Pattern, Times};
+use std::cmp::Reverse;
 
 /// The times of the next cycle.
 pub fn step(case: &Case, x: &Times) -> Times {
@@ -40,6 +41,11 @@ pub fn first_cycle(case: &Case, x: &Times, limit: usize) -> Option<usize> {
     None
 }
 
+/// Whether a start lies within the start pattern and is in the target at a cycle.
+pub fn leads(case: &Case, x: &Times, cycle: usize) -> bool {
+    within(case.n, &case.start, x) && within(case.n, &case.target, &image(case, x, cycle))
+}
+
 /// All starts at most `radius` away from a centre in each departure, the
 /// first departure changing slowest.
 pub fn starts(n: usize, centre: &Times, radius: i64) -> Vec<Times> {
@@ -58,8 +64,35 @@ pub fn starts(n: usize, centre: &Times, radius: i64) -> Vec<Times> {
     all
 }
 
+/// In each row the lowest column that attains the largest sum.
+fn columns(case: &Case, x: &Times) -> [usize; 7] {
+    let mut columns = [0; 7];
+    for (i, column) in columns.iter_mut().enumerate().take(case.n) {
+        let sum = |j: &usize| case.time(i, *j).map(|a| x[*j] + a);
+        // The last of equal sums is taken.
+        *column = (0..case.n).rev().max_by_key(sum).expect("a column");
+    }
+    columns
+}
+
+/// The columns of each cycle, the last cycle first. Of the starts that lead into
+/// the target, those in the first zone of list `cycles` that meets the start
+/// pattern are the ones with the least word.
+fn word(case: &Case, x: &Times, cycles: usize) -> Vec<[usize; 7]> {
+    let mut times = *x;
+    let mut word = Vec::new();
+    for _ in 0..cycles {
+        word.push(columns(case, &times));
+        times = step(case, &times);
+    }
+    word.reverse();
+    word
+}
+
 /// The first cycle from 1 to `limit` at which some start of the box that lies
-/// within the start pattern is in the target, with such a start.
+/// within the start pattern is in the target, with the one picked from the box:
+/// in the first zone, the greatest time of departure 1, then of 2, and so on.
+/// Where the box holds the whole start pattern, that is the start handed back.
 pub fn first_in_box(
     case: &Case,
     centre: &Times,
@@ -69,5 +102,44 @@ pub fn first_in_box(
     let inside = starts(case.n, centre, radius);
     let inside = inside.iter().filter(|x| within(case.n, &case.start, x));
     let met = inside.filter_map(|x| first_cycle(case, x, limit).map(|cycle| (cycle, *x)));
-    met.min_by_key(|(cycle, _)| *cycle)
+    met.min_by_key(|(cycle, x)| (*cycle, word(case, x, *cycle), Reverse(*x)))
+}
+
+/// How a time was chosen: the greatest possible, the least, or 0.
+#[derive(Clone, Copy, Debug)]
+pub enum Choice {
+    Greatest,
+    Least,
+    Zero,
+}
+
+/// No range of a time has an end as far off.
+const FAR: i64 = 10_000_000_000;
+
+/// Whether a start still leads into the target, in the same zone, if departure
+/// i is some seconds later and with it any of those after it, but none before.
+fn can_be_later(case: &Case, x: &Times, cycle: usize, i: usize, seconds: i64) -> bool {
+    (0..1 << (case.n - i - 1)).any(|with: usize| {
+        let mut moved = *x;
+        moved[i] += seconds;
+        for j in (i + 1..case.n).filter(|j| with >> (j - i - 1) & 1 == 1) {
+            moved[j] += seconds;
+        }
+        leads(case, &moved, cycle) && word(case, &moved, cycle) == word(case, x, cycle)
+    })
+}
+
+/// How the time of departure i was chosen in a start that leads into the target
+/// at a cycle, or none if it is against the rule. It needs no box: in a zone a
+/// greater time is possible just if a second later is, with some of the
+/// departures after it moved as far, and there is no greatest just if they can
+/// be moved without end. The same holds of lesser times.
+pub fn choice(case: &Case, x: &Times, cycle: usize, i: usize) -> Option<Choice> {
+    let can = |seconds| can_be_later(case, x, cycle, i, seconds);
+    let (choice, right) = match (can(FAR), can(-FAR)) {
+        (false, _) => (Choice::Greatest, !can(1)),
+        (true, false) => (Choice::Least, !can(-1)),
+        (true, true) => (Choice::Zero, x[i] == 0),
+    };
+    (right && leads(case, x, cycle)).then_some(choice)
 }

@@ -1,5 +1,6 @@
 //! A separately written brute search for verdicts on tram networks, and the
-//! parts that the tests share. Written from the statement of scope alone.
+//! parts that the tests share. Written from the statement of scope and the
+//! requests after it alone.
 
 pub mod archive;
 pub mod case;

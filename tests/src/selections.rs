@@ -216,17 +216,18 @@ pub fn searched(case: &Case) -> (usize, bool) {
     }
 }
 
-/// The start picked from a set: each time is fixed by two more bounds before
-/// the next is looked for.
+/// The start picked from a set: for each departure in turn the greatest time;
+/// if there is none, the least; if neither, 0. Each time is fixed by two more
+/// bounds before the next is looked for.
 pub fn picked(set: &Bounds) -> Times {
     let mut set = *set;
     let mut times = [0; 7];
     for i in 1..=set.n {
         let closed = set.closed().expect("the set holds the times chosen so far");
-        times[i - 1] = match (closed.most[0][i], closed.most[i][0]) {
+        times[i - 1] = match (closed.most[i][0], closed.most[0][i]) {
             (NONE, NONE) => 0,
-            (NONE, greatest) => greatest,
-            (below, _) => -below,
+            (NONE, below) => -below,
+            (greatest, _) => greatest,
         };
         set.add(i, 0, times[i - 1]);
         set.add(0, i, -times[i - 1]);

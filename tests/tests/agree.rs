@@ -2,9 +2,9 @@
 
 use evidence::archive::Verdict;
 use evidence::case::{pair, Case, Times};
-use evidence::enumeration::{first_cycle, first_in_box, image, starts, step, within};
+use evidence::enumeration::{choice, first_cycle, first_in_box, image, starts, step, within};
 use evidence::random::{bearable, trial, Random};
-use evidence::selections::{before, next_list, picked, search, selections, Bounds, Selection};
+use evidence::selections::{before, next_list, search, selections, Bounds, Selection};
 
 /// The largest distance from the clock's zero in the boxes here, by n.
 fn radius(n: usize) -> i64 {
@@ -31,28 +31,24 @@ fn enclose(case: &mut Case) {
     }
 }
 
-/// Compares one verdict with enumeration and returns its kind.
+/// Compares one answer with enumeration and returns its kind.
 fn compare(case: &Case, capacity: usize, words: &str) -> usize {
     let answer = search(case, capacity).answer;
-    let first = |limit| first_in_box(case, &[0; 7], radius(case.n), limit);
-    let (kind, last) = match answer.verdict {
-        Verdict::Reached { cycle } => {
-            let then = image(case, &answer.start, cycle);
-            assert!(within(case.n, &case.start, &answer.start), "{words}");
-            assert!(within(case.n, &case.target, &then), "{words}");
-            (0, cycle - 1)
-        }
-        Verdict::Clear { horizon } => (1, horizon),
-        Verdict::Never => (2, 100),
-        Verdict::Refused(fault) => (3, fault.returned - 1),
+    let (kind, limit, met) = match answer.verdict {
+        Verdict::Reached { cycle } => (0, cycle, Some((cycle, answer.start))),
+        Verdict::Clear { horizon } => (1, horizon, None),
+        Verdict::Never => (2, 100, None),
+        Verdict::Refused(fault) => (3, fault.returned - 1, None),
     };
-    assert_eq!(first(last), None, "{answer:?}, {words}");
+    let first = first_in_box(case, &[0; 7], radius(case.n), limit);
+    assert_eq!(first, met, "{answer:?}, {words}");
     kind
 }
 
-/// Every start lies in the box, so enumeration decides when the target is met.
+/// Every start lies in the box, so enumeration decides when the target is met
+/// and which start is handed back.
 #[test]
-fn verdicts_on_enclosed_starts() {
+fn answers_on_enclosed_starts() {
     let mut counts = [0; 4];
     for seed in 0..4000 {
         let mut random = Random::new(seed);
@@ -67,62 +63,25 @@ fn verdicts_on_enclosed_starts() {
     assert!(counts.iter().all(|&count| count > 100), "{counts:?}");
 }
 
-/// The start picked is the least of the box's starts, in the order of words.
+/// Each time of a start handed back is by the rule.
 #[test]
-fn picked_is_least() {
-    let mut picks = 0;
-    for seed in 0..3000 {
-        let mut random = Random::new(seed);
-        let (mut case, _) = small_case(&mut random);
-        enclose(&mut case);
-        let all = starts(case.n, &[0; 7], radius(case.n));
-        let least = all.iter().find(|x| within(case.n, &case.start, x));
-        let set = Bounds::stated(case.n, &case.start).closed();
-        let found = set.map(|set| picked(&set));
-        assert_eq!(found.as_ref(), least, "seed {seed}, {case:?}");
-        picks += usize::from(found.is_some());
-    }
-    assert!(picks > 500, "{picks}");
-}
-
-/// Whether departure i can have this time in the set.
-fn possible(set: &Bounds, i: usize, time: i64) -> bool {
-    let mut fixed = *set;
-    fixed.add(i, 0, time);
-    fixed.add(0, i, -time);
-    fixed.closed().is_some()
-}
-
-/// Each time picked is the least possible, else the greatest, else 0. No end
-/// of a range is as far off as `far`, so what is possible there has no end.
-#[test]
-fn picked_is_by_the_rule() {
-    let far = 10_000_000_000;
-    let mut kinds = [0; 3];
+fn starts_by_the_rule() {
+    let mut counts = [0; 3];
     for seed in 0..4000 {
-        let mut random = Random::new(seed);
-        let trial = trial(&mut random);
-        let Some(mut set) = Bounds::stated(trial.case.n, &trial.case.start).closed() else {
+        let trial = trial(&mut Random::new(seed));
+        let answer = search(&trial.case, trial.capacity).answer;
+        let Verdict::Reached { cycle } = answer.verdict else {
             continue;
         };
-        let times = picked(&set);
-        for i in 1..=trial.case.n {
-            let time = times[i - 1];
-            let words = format!("seed {seed}, departure {i}, {times:?}, {:?}", trial.case);
-            assert!(possible(&set, i, time), "{words}");
-            let (low, high) = (possible(&set, i, -far), possible(&set, i, far));
-            let (kind, right) = match (low, high) {
-                (false, _) => (0, !possible(&set, i, time - 1)),
-                (true, false) => (1, !possible(&set, i, time + 1)),
-                (true, true) => (2, time == 0),
+        for i in 0..trial.case.n {
+            let Some(choice) = choice(&trial.case, &answer.start, cycle, i) else {
+                panic!("seed {seed}, departure {i}, {answer:?}, {:?}", trial.case);
             };
-            assert!(right, "{words}");
-            kinds[kind] += 1;
-            set.add(i, 0, time);
-            set.add(0, i, -time);
+            counts[choice as usize] += 1;
         }
     }
-    assert!(kinds.iter().all(|&count| count > 200), "{kinds:?}");
+    println!("greatest, least, 0: {counts:?}");
+    assert!(counts.iter().all(|&count| count > 200), "{counts:?}");
 }
 
 /// Whether each selected column attains its row's largest sum.

@@ -97,6 +97,15 @@ fn network_examples() {
     check(&nobody, 128, Verdict::Never, [0, 0]);
 }
 
+/// The example of request [4].
+#[test]
+fn latest_start() {
+    let mut minute = o(1);
+    minute.times[0] = Some(60);
+    let until_nine = from_to(minute, &[(0, 1, 0), (1, 0, 9)], &[]);
+    check(&until_nine, 128, reached(1), [9, 0]);
+}
+
 #[test]
 fn images_of_the_first_example() {
     let after = |first, second| {

@@ -3,7 +3,7 @@
 use evidence::archive::{self, Answer, Verdict};
 use evidence::case::Case;
 use evidence::checks::{named, noisy, Lent};
-use evidence::enumeration::{first_in_box, image, within};
+use evidence::enumeration::{first_in_box, leads};
 use evidence::faults;
 use evidence::random::{crowded_trial, dense_trial, sharper, trial, Random, Trial};
 use evidence::selections::search;
@@ -60,9 +60,7 @@ fn enumerate(seed: u64, trial: &Trial, capacity: usize, answer: &Answer) {
     let words = || format!("{answer:?}, {}", named(seed, &case.pack(), capacity));
     let limit = match answer.verdict {
         Verdict::Reached { cycle } => {
-            let then = image(case, &answer.start, cycle);
-            assert!(within(case.n, &case.start, &answer.start), "{}", words());
-            assert!(within(case.n, &case.target, &then), "{}", words());
+            assert!(leads(case, &answer.start, cycle), "{}", words());
             cycle - 1
         }
         Verdict::Clear { horizon } => horizon,

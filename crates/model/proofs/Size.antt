@@ -14,7 +14,7 @@ use borrow.Author.Tests.{leb-true, leb-false, le-leb, lt-leb}
 use Rattle.ints.proofs.Integers.{up, dn, ints, add-ud, sub-ud, neg-ud, pos-ud, abs-ud}
 use Rattle.model.specs.Bound.{Bound, none, most, any, Holds, plus}
 use Rattle.model.specs.Matrix.{Matrix, entry, Constraint, tighten, Member}
-use Rattle.model.specs.Search.{leastOr}
+use Rattle.model.specs.Search.{greatestOr}
 use Rattle.model.specs.Lists.{Every, done, both}
 use Rattle.model.specs.Conditions.{Closed, Fits, Small, free, sized, AllSmall, Bounded}
 use Rattle.model.proofs.Bounds.{bounds}
@@ -54,11 +54,11 @@ pub term-small : {S : ℕ} (t : ℕ) {b : Bound} (z : ℤ) → Small S b → nat
 term-small {S} t z h k = small-mono (omega arith) (small-sum {C = t * S} h (sized {z = z} k))
 
 -- the time that is taken between two bounds
-pub least-small : {B : ℕ} {w u : Bound} → Small B w → Small B u → natAbs (leastOr w u) ≤ B
-unfolding leastOr
-least-small (sized {z} h) s = neg-small z h
-least-small free (sized h) = h
-least-small free free = omega arith
+pub taken-small : {B : ℕ} {w u : Bound} → Small B w → Small B u → natAbs (greatestOr w u) ≤ B
+unfolding greatestOr
+taken-small h (sized k) = k
+taken-small (sized {z} h) free = neg-small z h
+taken-small free free = omega arith
 
 -- every time that is not early is more than B after every early time
 abbrev Separated : ℕ → ℕ → (ℕ → ℤ) → (ℕ → Bool) → Type 0

@@ -1,5 +1,5 @@
--- The start that is picked: it is a member of its zone, and each departure has the least time possible, given those before it;
--- if there is no least, the greatest; if neither, 0. No time is larger than n of the zone's finite bounds.
+-- The start that is picked: it is a member of its zone, and each departure has the greatest time possible, given those before it;
+-- if there is no greatest, the least; if neither, 0. No time is larger than n of the zone's finite bounds.
 use Prim.Native.Nat.{ℕ, zero, suc, _+_, _*_, _≤_, _<_}
 use native.Mathlib.Omega.{arith}
 use native.Mathlib.Decide.{ℕ-discrete}
@@ -16,19 +16,19 @@ use Rattle.model.specs.Bound as B
 use Rattle.model.specs.Bound.{Bound, most, any, Holds, plus, tighter}
 use Rattle.model.specs.Matrix.{Matrix, Member}
 use Rattle.model.specs.Network.{clocked}
-use Rattle.model.specs.Search.{tightest, above, below, leastOr, choices, pick}
+use Rattle.model.specs.Search.{tightest, above, below, greatestOr, choices, pick}
 use Rattle.model.specs.Conditions.{Closed, howLate, howEarly, Small, free, Bounded}
-use Rattle.model.proofs.Bounds.{bounds, leB-refl, leB-trans, holds-sum, between, plus-none, tighter-left, tighter-right}
+use Rattle.model.proofs.Bounds.{bounds, leB-refl, leB-trans, holds-sum, between, tighter-left, tighter-right}
 use Rattle.model.proofs.Listed.{one-more, every-getD}
 use Rattle.model.proofs.Tabulated.{tabulate-ext}
 use Rattle.model.proofs.Attained.{tightestOf-either, Upto, Possible, next-time, upto-next, takes-next}
-use Rattle.model.proofs.Size.{small-mono, term-small, neg-small, least-small}
+use Rattle.model.proofs.Size.{small-mono, term-small, neg-small, taken-small}
 
 -- where any time is between two bounds, the one taken is
-taken-between : (w u : Bound) (v : ℤ) → Holds v u → Holds (negℤ v) w → Holds (leastOr w u) u × Holds (negℤ (leastOr w u)) w
-unfolding leastOr
-taken-between (most b) u v hu hw = (leB-trans (omega (bounds, neg-ud b, neg-ud v)) hu, omega (bounds, neg-ud b, neg-ud (negℤ b)))
-taken-between B.Bound.none (most c) v hu hw = (leB-refl (most c), any)
+taken-between : (w u : Bound) (v : ℤ) → Holds v u → Holds (negℤ v) w → Holds (greatestOr w u) u × Holds (negℤ (greatestOr w u)) w
+unfolding greatestOr
+taken-between w (most c) v hu hw = (leB-refl (most c), leB-trans (omega (bounds, neg-ud c, neg-ud v)) hw)
+taken-between (most b) B.Bound.none v hu hw = (any, omega (bounds, neg-ud b, neg-ud (negℤ b)))
 taken-between B.Bound.none B.Bound.none v hu hw = (any, any)
 
 -- the times of a list
@@ -38,12 +38,12 @@ at xs s = getD xs s (pos 0)
 module _ (m : ℕ) (z : Matrix) where
   -- the time that is taken for t, given x(0), .., x(t - 1)
   abbrev taken : ℕ → (ℕ → ℤ) → ℤ
-  taken t x = leastOr (howEarly m z t x) (howLate m z t x)
+  taken t x = greatestOr (howEarly m z t x) (howLate m z t x)
 
   -- it depends on these alone
   taken-same : (t : ℕ) (x y : ℕ → ℤ) → ((s : ℕ) → s < t → x s ≡ y s) → taken t x ≡ taken t y
   taken-same t x y same =
-      ap₂ (λ b c. leastOr (tightest b) (tightest c))
+      ap₂ (λ b c. greatestOr (tightest b) (tightest c))
       (tabulate-ext t 0 _ _ (λ s l u. rw (same s (omega arith)))) (tabulate-ext t 0 _ _ (λ s l u. rw (same s (omega arith))))
 
   -- r times are chosen
@@ -64,7 +64,7 @@ module _ (m : ℕ) (z : Matrix) where
   unfolding choices above below
   choices-taken zero xs t h l = absurd (omega arith)
   choices-taken (suc r) xs t h l =
-      let v = leastOr (below m z xs) (above m z xs) in
+      let v = greatestOr (below m z xs) (above m z xs) in
       let more : length (xs ++ (v ∷ [])) ≡ length xs + 1 = length-append xs (v ∷ []) in
       elim (ℕ-discrete t (length xs)) [
         | yes e ↦ rw e (choices-keep r (xs ++ (v ∷ [])) (length xs) (omega arith) ∙ getD-append-seam xs v [] (pos 0)
@@ -94,7 +94,7 @@ module _ (n : ℕ) (z : Matrix) where
 
   -- they are the times chosen from none on: with none chosen, 0 is taken
   picked-choices : picked ≡ at (choices (suc n) z (suc n) [])
-  unfolding clocked pick choices above below leastOr tightest tabulate
+  unfolding clocked pick choices above below greatestOr tightest tabulate
   picked-choices = let first = pos 0 ∷ [] in fun-ext (elim [
     | zero ↦ sym (choices-keep (suc n) z n first 0 (omega arith))
     | suc i ↦ getD-drop 1 (choices (suc n) z n first) i (pos 0) ∙ ap (at (choices (suc n) z n first)) (omega arith)
@@ -107,7 +107,7 @@ module _ (n : ℕ) (z : Matrix) where
   -- where no finite bound is larger than S, time t is at most t * S in size
   module _ {S : ℕ} (small : Bounded (suc n) S z) where
     one-small : (t : ℕ) → t < suc n → ((s : ℕ) → s < t → natAbs (picked s) ≤ s * S) → natAbs (picked t) ≤ t * S
-    one-small t h before = rw (picked-taken t h) (least-small
+    one-small t h before = rw (picked-taken t h) (taken-small
         (tightestOf-either (Small (t * S)) t _ free (λ s l. term s l (negℤ (picked s)) (small s t (omega arith) h) (neg-small (picked s) (before s l))))
         (tightestOf-either (Small (t * S)) t _ free (λ s l. term s l (picked s) (small t s h (omega arith)) (before s l))))
       where
@@ -130,18 +130,18 @@ pub record Agrees (n : ℕ) (z : Matrix) (i : ℕ) (x : ℕ → ℤ) : Type 0 wh
   pub member : Member (suc n) z x
   pub chosen : (j : ℕ) → j ≤ i → x j ≡ clocked (pick n z) j
 
--- departure i + 1 has no least, and no greatest, time in the members that agree
-abbrev pub NoLeast : ℕ → Matrix → ℕ → Type 0
-NoLeast n z i = (u : ℤ) → (x : ℕ → ℤ) × Agrees n z i x × x (suc i) ≤ℤ u
-
+-- departure i + 1 has no greatest, and no least, time in the members that agree
 abbrev pub NoGreatest : ℕ → Matrix → ℕ → Type 0
 NoGreatest n z i = (u : ℤ) → (x : ℕ → ℤ) × Agrees n z i x × u ≤ℤ x (suc i)
 
--- document 01's rule for the time v of departure i + 1, given those picked for departures 1 to i
+abbrev pub NoLeast : ℕ → Matrix → ℕ → Type 0
+NoLeast n z i = (u : ℤ) → (x : ℕ → ℤ) × Agrees n z i x × x (suc i) ≤ℤ u
+
+-- document 02's rule for the time v of departure i + 1, given those picked for departures 1 to i
 pub data Picked (n : ℕ) (z : Matrix) (i : ℕ) (v : ℤ) : Type 0 where
-  least : ((x : ℕ → ℤ) → Agrees n z i x → v ≤ℤ x (suc i)) → Picked n z i v
-  greatest : NoLeast n z i → ((x : ℕ → ℤ) → Agrees n z i x → x (suc i) ≤ℤ v) → Picked n z i v
-  neither : NoLeast n z i → NoGreatest n z i → v ≡ pos 0 → Picked n z i v
+  greatest : ((x : ℕ → ℤ) → Agrees n z i x → x (suc i) ≤ℤ v) → Picked n z i v
+  least : NoGreatest n z i → ((x : ℕ → ℤ) → Agrees n z i x → v ≤ℤ x (suc i)) → Picked n z i v
+  neither : NoGreatest n z i → NoLeast n z i → v ≡ pos 0 → Picked n z i v
 
 module _ {n : ℕ} {z : Matrix} (cl : Closed (suc n) z) where
   -- the times picked keep to the bounds among them, one by one
@@ -173,23 +173,24 @@ module _ {n : ℕ} {z : Matrix} (cl : Closed (suc n) z) where
         let (x, mem, same, e) = takes-next (suc n) z cl (suc i) (picked n z) (omega arith) (pick-upto (suc i) (omega arith)) v (hu, hw) in
         (x, record { member = mem; chosen = λ j l. same j (omega arith) }, e)
 
-    -- with no bound on how early there is no least time, and with none on either side no greatest
-    no-least : early ≡ B.Bound.none → NoLeast n z i
-    no-least e u =
-        let (v, hv, w) = between (tighter (most u) late) B.Bound.none (rw plus-none any) in
-        let (x, a, q) = agreeing v (leB-trans hv (tighter-right (most u) late)) (rw e any) in
-        let k = leB-trans hv (tighter-left (most u) late) in
-        (x, a, omega bounds)
+    -- with no bound on how late there is no greatest time, and with none on either side no least
+    no-greatest : late ≡ B.Bound.none → NoGreatest n z i
+    unfolding plus
+    no-greatest f u =
+        let (v, w, hv) = between B.Bound.none (tighter (most (negℤ u)) early) any in
+        let (x, a, q) = agreeing v (rw f any) (leB-trans hv (tighter-right (most (negℤ u)) early)) in
+        let k = leB-trans hv (tighter-left (most (negℤ u)) early) in
+        (x, a, omega (bounds, neg-ud u, neg-ud v))
 
-    no-greatest : early ≡ B.Bound.none → late ≡ B.Bound.none → NoGreatest n z i
-    no-greatest e f u = let (x, a, q) = agreeing u (rw f any) (rw e any) in (x, a, omega ints)
+    no-least : early ≡ B.Bound.none → late ≡ B.Bound.none → NoLeast n z i
+    no-least e f u = let (x, a, q) = agreeing u (rw f any) (rw e any) in (x, a, omega ints)
 
     -- the rule, by these two bounds
-    rule : (w u : Bound) → early ≡ w → late ≡ u → Picked n z i (leastOr w u)
-    unfolding leastOr
-    rule (most b) u e f = least (λ x a. let k = rw e at (possible x a .1) in omega (bounds, neg-ud b, neg-ud (x (suc i))))
-    rule B.Bound.none (most c) e f = greatest (no-least e) (λ x a. let k = rw f at (possible x a .0) in omega bounds)
-    rule B.Bound.none B.Bound.none e f = neither (no-least e) (no-greatest e f) refl
+    rule : (w u : Bound) → early ≡ w → late ≡ u → Picked n z i (greatestOr w u)
+    unfolding greatestOr
+    rule w (most c) e f = greatest (λ x a. let k = rw f at (possible x a .0) in omega bounds)
+    rule (most b) B.Bound.none e f = least (no-greatest f) (λ x a. let k = rw e at (possible x a .1) in omega (bounds, neg-ud b, neg-ud (x (suc i))))
+    rule B.Bound.none B.Bound.none e f = neither (no-greatest f) (no-least e f) refl
 
     -- each departure is picked by the rule
     pub pick-rule : Picked n z i (clocked (pick n z) (suc i))

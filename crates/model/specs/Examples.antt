@@ -1,4 +1,4 @@
--- The examples that document 01 marks (P): one list, one claim.
+-- The examples that document 01 marks (P), and those that document 02 adds: one list, one claim.
 use Prim.Native.Nat.{ℕ}
 use lib.IntN.{ℤ, pos, negsuc}
 use mathlib.Core.Path.{_≡_, refl}
@@ -69,6 +69,10 @@ x-is-0 = present (pos 0) ∷ present (pos 0) ∷ []
 abbrev pub x-is-5 : List Slot
 x-is-5 = present (negsuc 4) ∷ present (pos 5) ∷ []
 
+-- 0 ≤ x(1) ≤ 9
+abbrev pub x-in-0-to-9 : List Slot
+x-in-0-to-9 = present (pos 0) ∷ present (pos 9) ∷ []
+
 abbrev pub examples : List Example
 examples =
     powers-of (R 1 any2 any2) (record { q = 4; p = 2; number = pos 8 })
@@ -87,6 +91,7 @@ examples =
     ∷ verdict-of (R 1 any2 in-0-to-1) 128 (reached 1 (negsuc 1 ∷ negsuc 4 ∷ []))
     ∷ verdict-of (R 1 any2 in-0-to-1) 1 (tableFull 1)
     ∷ verdict-of (R 3 any2 (d-within (present (pos 0)) (present (negsuc 0)))) 128 never
+    ∷ verdict-of (caseOf 1 1 (present (pos 60) ∷ []) x-in-0-to-9 (nothing ∷ nothing ∷ [])) 128 (reached 1 (pos 9 ∷ []))
     ∷ []
 
 pub all-right : AllRight examples
@@ -94,7 +99,7 @@ unfolding L.tabulate L.anyOf L.allOf mathlib.Core.List.flatten mathlib.Core.List
     M.diagonal M.everything M.relaxed M.within M.constrain M.tighten M.sameMatrix P.pairPlace P.pairBound P.patternConstraints P.isNone P.onlyDifferences
     N.time N.isTime N.regular N.later N.latest N.after N.secsOf N.clocked N.next N.cycle N.cycles N.product N.powersFrom N.added N.gap N.sameTime
     L.sameLists N.repeats N.firstRepeat N.repeatOf X.columns X.selections X.chosen X.slack X.attains X.keeps X.rowConstraints X.rowsConstraints X.preimage
-    X.keep X.previous X.lists X.common X.firstCommon X.tightest X.above X.below X.leastOr X.choices X.pick X.planWith X.plan X.large X.someLarge X.settled
+    X.keep X.previous X.lists X.common X.firstCommon X.tightest X.above X.below X.greatestOr X.choices X.pick X.planWith X.plan X.large X.someLarge X.settled
     X.searchFrom X.outcome F.timeOf F.boundOf F.network F.beyond F.entryFault F.rowsFault F.outside F.tableFault F.patternsFault F.caseFault F.roomFault
     F.callFault F.runFault answer run
-all-right = (refl, (refl, (refl, (refl, (refl, (refl, (refl, (refl, (refl, (refl, (refl, (refl, (refl, (refl, (refl, (refl, tt))))))))))))))))
+all-right = (refl, (refl, (refl, (refl, (refl, (refl, (refl, (refl, (refl, (refl, (refl, (refl, (refl, (refl, (refl, (refl, (refl, tt)))))))))))))))))

@@ -89,15 +89,15 @@ above m z xs = tightest (tabulate (length xs) 0 (λ s. plus (entry m z (length x
 unfoldable pub below : ℕ → Matrix → List ℤ → Bound
 below m z xs = tightest (tabulate (length xs) 0 (λ s. plus (entry m z s (length xs)) (most (negℤ (getD xs s (pos 0))))))
 
--- the least time; if there is no least, the greatest; if neither, 0
-unfoldable pub leastOr : Bound → Bound → ℤ
-leastOr (most b) u = negℤ b
-leastOr B.Bound.none (most c) = c
-leastOr B.Bound.none B.Bound.none = pos 0
+-- the greatest time; if there is no greatest, the least; if neither, 0. Given how early, negated, and how late
+unfoldable pub greatestOr : Bound → Bound → ℤ
+greatestOr w (most c) = c
+greatestOr (most b) B.Bound.none = negℤ b
+greatestOr B.Bound.none B.Bound.none = pos 0
 
 unfoldable pub choices : ℕ → Matrix → ℕ → List ℤ → List ℤ
 choices m z zero xs = xs
-choices m z (suc r) xs = choices m z r (xs ++ (leastOr (below m z xs) (above m z xs) ∷ []))
+choices m z (suc r) xs = choices m z r (xs ++ (greatestOr (below m z xs) (above m z xs) ∷ []))
 
 unfoldable pub pick : ℕ → Matrix → List ℤ
 pick n z = drop 1 (choices (suc n) z n (pos 0 ∷ []))

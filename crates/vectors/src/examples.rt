@@ -1,4 +1,4 @@
-// The examples of document 01, and its traps.
+// The examples of documents 01 and 02, and their traps.
 use crate::answers;
 use crate::answers::example;
 use crate::answers::line;
@@ -54,6 +54,12 @@ fn unmet(horizon: usize) {
     example(two(horizon, cases::r(), any(), cases::d_within(1, 0)));
 }
 
+// A = 60, 0 <= x1 <= 9 to any: the latest start.
+fn latest() {
+    let start = cases::within(any(), 1, 1, 0, 0, 9);
+    example(one(1, cases::table1(60), start, any()));
+}
+
 fn network() {
     near(3);
     near(1);
@@ -67,6 +73,7 @@ fn network() {
     square(1, 18);
     square(2, 36);
     unmet(3);
+    latest();
 }
 
 // O, any to a pattern that nobody can meet: x1 <= 0 and x1 >= 1.

@@ -50,7 +50,7 @@ fn early_line(horizon: usize) {
 
 fn early_run(cycle: usize) {
     let mut start = from2(-100, -100);
-    start[2] = Seconds(-385);
+    start[2] = Seconds(-300);
     run_line(case_of(3, 1, early(), any(), any()), start, cycle);
 }
 

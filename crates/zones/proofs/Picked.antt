@@ -12,7 +12,7 @@ use Rattle.model.specs.Bound as B
 use Rattle.model.specs.Bound.{Bound, most, plus, tighter}
 use Rattle.model.specs.Matrix.{Matrix, entry}
 use Rattle.model.specs.Network.{clocked}
-use Rattle.model.specs.Search.{tightest, above, below, leastOr, choices, pick}
+use Rattle.model.specs.Search.{tightest, above, below, greatestOr, choices, pick}
 use Rattle.model.specs.Answers.{seconds, allTimes}
 use Rattle.model.specs.Conditions.{howEarly, howLate, Small, free}
 use Rattle.model.proofs.Stored.{padded-set}
@@ -107,17 +107,17 @@ module _ {n : ℕ} {d : Matrix} {times : List Seconds} {t : ℕ} (w : Picking n 
   times-small s h = rw (at-before s h) (at-getD (pos 0) (omega arith) (both (omega arith) (w .small)) s)
 
   -- the choice
-  choice-is : leastOr (howEarly (suc n) d t (clocked (values times))) (howLate (suc n) d t (clocked (values times)))
-      ≡ leastOr (below (suc n) d (pos 0 ∷ w .ys)) (above (suc n) d (pos 0 ∷ w .ys))
+  choice-is : greatestOr (howEarly (suc n) d t (clocked (values times))) (howLate (suc n) d t (clocked (values times)))
+      ≡ greatestOr (below (suc n) d (pos 0 ∷ w .ys)) (above (suc n) d (pos 0 ∷ w .ys))
   unfolding below above
   choice-is =
       let c = w .count in
-      rw c (ap₂ (λ b e. leastOr (tightest b) (tightest e))
+      rw c (ap₂ (λ b e. greatestOr (tightest b) (tightest e))
       (tabulate-ext t 0 _ _ (λ s l u. rw (at-before s (omega arith))))
       (tabulate-ext t 0 _ _ (λ s l u. rw (at-before s (omega arith)))))
 
   pub picking-step : (v : Seconds) → t ≤ n → n ≤ mostDepartures → natAbs (v .0) ≤ suc t * InMemory
-      → v .0 ≡ leastOr (howEarly (suc n) d t (clocked (values times))) (howLate (suc n) d t (clocked (values times)))
+      → v .0 ≡ greatestOr (howEarly (suc n) d t (clocked (values times))) (howLate (suc n) d t (clocked (values times)))
       → Picking n d (set times (t - 1) v) (t + 1)
   unfolding choices
   picking-step v h few small is =

@@ -11,7 +11,7 @@ use Rattle.model.specs.Bound.{Bound, LeB, plus, tighter}
 use Rattle.model.specs.Matrix.{Matrix, entry, Constraint}
 use Rattle.model.specs.Network.{Time, clocked}
 use Rattle.model.specs.Pattern.{pairBound}
-use Rattle.model.specs.Search.{chosen, attains, keeps, leastOr}
+use Rattle.model.specs.Search.{chosen, attains, keeps, greatestOr}
 use Rattle.model.specs.Conditions.{howEarly, howLate, Fits, Chosen, Cols, Small, Fitting}
 use Rattle.memory.specs.Numbers.{boundsIn, timesIn, Limit, InMemory}
 use Rattle.memory.specs.Conditions.{ZoneIn, TableIn, PatternIn}
@@ -131,5 +131,5 @@ pub record NextReady (n : ℕ) (z xs : List ℤ) (t : ℕ) : Type 0 where
   pub small : (s : ℕ) → s < t → natAbs (clocked xs s) ≤ t * InMemory
 
 pub record NextIs (n : ℕ) (z xs : List ℤ) (t : ℕ) (r : Seconds) : Type 0 where
-  pub is : r .0 ≡ leastOr (howEarly (suc n) (boundsIn z) t (clocked xs)) (howLate (suc n) (boundsIn z) t (clocked xs))
+  pub is : r .0 ≡ greatestOr (howEarly (suc n) (boundsIn z) t (clocked xs)) (howLate (suc n) (boundsIn z) t (clocked xs))
   pub small : natAbs (r .0) ≤ suc t * InMemory

@@ -7,7 +7,7 @@ ghost use Rattle.model.specs.Bound.{most};
 ghost use Rattle.model.specs.Matrix.{diagonal, everything};
 ghost use Rattle.model.specs.Pattern.{patternConstraints};
 ghost use Rattle.model.specs.Network.{clocked};
-ghost use Rattle.model.specs.Search.{attains, rowConstraints, leastOr, pick};
+ghost use Rattle.model.specs.Search.{attains, rowConstraints, greatestOr, pick};
 ghost use Rattle.model.specs.Answers.{allTimes};
 ghost use Rattle.model.specs.Conditions.{Small};
 ghost use Rattle.memory.specs.Numbers.{boundsIn, timesIn, asBound, Limit, Widest};
@@ -282,15 +282,15 @@ fn clocked(times: [Seconds; DEPARTURES], s: usize) -> Seconds
     times[s - 1]
 }
 
-// The least time; if there is no least, the greatest; if neither, 0.
-fn least_or(early: Number, late: Number) -> Seconds
+// The greatest time; if there is no greatest, the least; if neither, 0.
+fn greatest_or(early: Number, late: Number) -> Seconds
     requires { ⌜ Small Widest (asBound early) ⌝ }
-    ensures { λ r. ⌜ r .0 ≡ leastOr (asBound early) (asBound late) ⌝ }
+    ensures { λ r. ⌜ r .0 ≡ greatestOr (asBound early) (asBound late) ⌝ }
 {
-    match early {
-        Number::Secs(b) => b.negated(),
-        Number::Blank => match late {
-            Number::Secs(c) => c,
+    match late {
+        Number::Secs(c) => c,
+        Number::Blank => match early {
+            Number::Secs(b) => b.negated(),
             Number::Blank => ZERO,
         },
     }
@@ -312,7 +312,7 @@ fn next_time(zone: &[i32], n: usize, times: [Seconds; DEPARTURES], t: usize) -> 
             .plus(Number::Secs(x.negated()))
             .tighter(early);
     }
-    least_or(early, late)
+    greatest_or(early, late)
 }
 
 // The start picked in the zone: each departure in turn, given those before it.

@@ -6,8 +6,8 @@ use lib.IntN.{natAbs, negℤ}
 use Rattle.model.specs.Sizes.{mostDepartures}
 use Rattle.model.specs.Bound.{most, plus}
 use Rattle.model.specs.Network.{clocked}
-use Rattle.model.specs.Search.{leastOr}
-use Rattle.model.proofs.Size.{small-mono, neg-small, least-small}
+use Rattle.model.specs.Search.{greatestOr}
+use Rattle.model.proofs.Size.{small-mono, neg-small, taken-small}
 use Rattle.memory.specs.Numbers.{boundsIn, asBound, InMemory}
 use Rattle.memory.proofs.Numbers.{wide}
 use Rattle.zones.specs.Inner.{values}
@@ -95,16 +95,16 @@ loop-again c =
           (ap₂ (λ b z. plus b (most z)) (b .bound-at .ensures .is) (x .clocked .ensures))),
     )
 
-least-or-requires : tie.Need-least-or-requires Inv-loop μ-loop
-least-or-requires c κs = small-mono (omega (arith, few (c .before .before))) (c .before .loop .inv .0 .small)
+greatest-or-requires : tie.Need-greatest-or-requires Inv-loop μ-loop
+greatest-or-requires c κs = small-mono (omega (arith, few (c .before .before))) (c .before .loop .inv .0 .small)
 
 returns : tie.Need-returns Inv-loop μ-loop
 returns c =
     let inv = c .before .before .loop .inv in
     let h = c .before .loop-test .left in
     record {
-      is = c .least-or .ensures ∙ ap₂ leastOr (tightest-done (inv .0) h) (tightest-done (inv .1) h);
-      small = rw (c .least-or .ensures) (least-small (inv .0 .small) (inv .1 .small));
+      is = c .greatest-or .ensures ∙ ap₂ greatestOr (tightest-done (inv .0) h) (tightest-done (inv .1) h);
+      small = rw (c .greatest-or .ensures) (taken-small (inv .0 .small) (inv .1 .small));
     }
 
 pub next-time-spec : {M : Type 1} → statement M
@@ -125,5 +125,5 @@ next-time-spec =
     tighter-requires-2
     loop-less
     loop-again
-    least-or-requires
+    greatest-or-requires
     returns)
