@@ -133,6 +133,9 @@ pub fn search<const M: usize>(
     list.zones.settle(built);
     let mut answer = None;
     for k in 1..=last {
+        if list.zones.all().is_empty() {
+            break;
+        }
         let mut zones = list.zones.all().iter();
         answer = match zones.try_for_each(|zone| lister.before(&table, zone, &mut next)) {
             Err(Stop::Full) => Some(refused(11, k)),
@@ -145,6 +148,11 @@ pub fn search<const M: usize>(
         std::mem::swap(&mut list, &mut next);
         next.zones.clear();
     }
+    let end = if list.zones.all().is_empty() {
+        Verdict::Never
+    } else {
+        otherwise
+    };
     let compared = list.zones.compared + next.zones.compared;
-    Some((answer.unwrap_or(without_start(otherwise)), compared))
+    Some((answer.unwrap_or(without_start(end)), compared))
 }

@@ -23,6 +23,18 @@ pub fn fault_number(answer: &Answer) -> usize {
     }
 }
 
+/// The last cycle up to which the target is not met, by the verdict. Never says
+/// so of every cycle. Starts of a box can contradict it, here up to cycle 100;
+/// they cannot tell it from clear, whichever its cause.
+pub fn unmet_up_to(verdict: &Verdict) -> usize {
+    match *verdict {
+        Verdict::Reached { cycle } => cycle - 1,
+        Verdict::Clear { horizon } => horizon,
+        Verdict::Never => 100,
+        Verdict::Refused(fault) => fault.returned - 1,
+    }
+}
+
 /// What a call on a case without a fault of its own must answer.
 fn of_good_case(case: &Case, capacity: usize, work_length: usize) -> Answer {
     match faults::of_call(case.n, capacity, work_length) {

@@ -235,7 +235,7 @@ pub fn picked(set: &Bounds) -> Times {
     times
 }
 
-/// An answer and the lengths of the lists made on the way, from list 1 on; a
+/// An answer and the lengths of the lists made on the way, from list 0 on; a
 /// list beyond the capacity counts one more than that.
 pub struct Outcome {
     pub answer: Answer,
@@ -264,22 +264,26 @@ fn decided(list: &[Bounds], start: &Bounds, capacity: usize, k: usize) -> Option
     })
 }
 
-/// The whole search on a case within the limits.
+/// The whole search on a case within the limits. Whether a list is dry is looked
+/// at before the next is made, and of the last one after its cycle.
 pub fn search(case: &Case, capacity: usize) -> Outcome {
     let (last, repeats) = searched(case);
     let selections = selections(case);
     let start = Bounds::stated(case.n, &case.start);
     let target = Bounds::stated(case.n, &case.target).closed();
     let mut list: Vec<Bounds> = target.into_iter().collect();
-    let mut lengths = Vec::new();
+    let mut lengths = vec![list.len()];
     for k in 1..=last {
+        if list.is_empty() {
+            break;
+        }
         list = next_list(case, &selections, &list, capacity);
         lengths.push(list.len());
         if let Some(answer) = decided(&list, &start, capacity, k) {
             return Outcome { answer, lengths };
         }
     }
-    let verdict = if repeats {
+    let verdict = if repeats || list.is_empty() {
         Verdict::Never
     } else {
         Verdict::Clear {

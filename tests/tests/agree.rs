@@ -2,9 +2,10 @@
 
 use evidence::archive::Verdict;
 use evidence::case::{pair, Case, Times};
+use evidence::checks::unmet_up_to;
 use evidence::enumeration::{choice, first_cycle, first_in_box, image, starts, step, within};
 use evidence::random::{bearable, trial, Random};
-use evidence::selections::{before, next_list, search, selections, Bounds, Selection};
+use evidence::selections::{before, next_list, picked, search, selections, Bounds, Selection};
 
 /// The largest distance from the clock's zero in the boxes here, by n.
 fn radius(n: usize) -> i64 {
@@ -34,11 +35,12 @@ fn enclose(case: &mut Case) {
 /// Compares one answer with enumeration and returns its kind.
 fn compare(case: &Case, capacity: usize, words: &str) -> usize {
     let answer = search(case, capacity).answer;
+    let limit = unmet_up_to(&answer.verdict);
     let (kind, limit, met) = match answer.verdict {
         Verdict::Reached { cycle } => (0, cycle, Some((cycle, answer.start))),
-        Verdict::Clear { horizon } => (1, horizon, None),
-        Verdict::Never => (2, 100, None),
-        Verdict::Refused(fault) => (3, fault.returned - 1, None),
+        Verdict::Clear { .. } => (1, limit, None),
+        Verdict::Never => (2, limit, None),
+        Verdict::Refused(_) => (3, limit, None),
     };
     let first = first_in_box(case, &[0; 7], radius(case.n), limit);
     assert_eq!(first, met, "{answer:?}, {words}");
@@ -119,10 +121,11 @@ fn sets_of_selections() {
 }
 
 /// Each start of a box is in a zone of list k just if its times at cycle k are
-/// in the target.
+/// in the target. A list that is not dry has such times, in the box or not.
 #[test]
 fn lists_and_images() {
     let mut members = [0; 2];
+    let mut dry = [0; 2];
     for seed in 0..800 {
         let mut random = Random::new(seed);
         let (case, _) = small_case(&mut random);
@@ -135,15 +138,22 @@ fn lists_and_images() {
             if list.len() > 400 {
                 break;
             }
+            let met = |x: &Times| within(case.n, &case.target, &image(&case, x, k));
             for x in &all {
                 let listed = list.iter().any(|zone| zone.holds(x));
-                let met = within(case.n, &case.target, &image(&case, x, k));
-                assert_eq!(listed, met, "seed {seed}, k {k}, {x:?}, {case:?}");
-                members[usize::from(met)] += 1;
+                assert_eq!(listed, met(x), "seed {seed}, k {k}, {x:?}, {case:?}");
+                members[usize::from(listed)] += 1;
             }
+            for zone in &list {
+                let x = picked(zone);
+                assert!(met(&x), "seed {seed}, k {k}, {x:?}, {case:?}");
+            }
+            dry[usize::from(list.is_empty())] += 1;
         }
     }
     assert!(members.iter().all(|&count| count > 10_000), "{members:?}");
+    println!("not dry, dry: {dry:?}");
+    assert!(dry.iter().all(|&count| count > 300), "{dry:?}");
 }
 
 /// The first cycle of a start is the least at which its times are in the target.

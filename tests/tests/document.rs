@@ -65,6 +65,11 @@ fn clear(horizon: usize) -> Verdict {
     Verdict::Clear { horizon }
 }
 
+fn full(returned: usize) -> Verdict {
+    let number = 11;
+    Verdict::Refused(Fault { number, returned })
+}
+
 #[test]
 fn repeated_powers() {
     let repeat = |q, p, added| Some(Repeat { q, p, added });
@@ -80,7 +85,7 @@ fn network_examples() {
     check(&to_equal(r(1)), 128, clear(1), [0, 0]);
     let to_three = |case| from_to(case, &[], &[(2, 1, -3)]);
     check(&to_three(r(3)), 128, Verdict::Never, [0, 0]);
-    check(&to_three(r(2)), 128, clear(2), [0, 0]);
+    check(&to_three(r(2)), 128, Verdict::Never, [0, 0]);
     let one = [(1, 2, 1), (2, 1, -1)];
     check(&from_to(s(2), &one, &one), 128, reached(2), [0, -1]);
     check(&from_to(s(1), &one, &one), 128, clear(1), [0, 0]);
@@ -90,9 +95,7 @@ fn network_examples() {
     let within = [(1, 0, 1), (0, 1, 0), (2, 0, 1), (0, 2, 0)];
     let within = from_to(r(1), &[], &within);
     check(&within, 128, reached(1), [-2, -5]);
-    let (number, returned) = (11, 1);
-    let full = Verdict::Refused(Fault { number, returned });
-    check(&within, 1, full, [0, 0]);
+    check(&within, 1, full(1), [0, 0]);
     let nobody = from_to(r(3), &[], &[(1, 2, 0), (2, 1, -1)]);
     check(&nobody, 128, Verdict::Never, [0, 0]);
 }
@@ -104,6 +107,21 @@ fn latest_start() {
     minute.times[0] = Some(60);
     let until_nine = from_to(minute, &[(0, 1, 0), (1, 0, 9)], &[]);
     check(&until_nine, 128, reached(1), [9, 0]);
+}
+
+/// Request [5], with clock bounds in both patterns: the lists of d ≤ -1 have 1,
+/// 2 and 0 zones, so that only a table of one zone runs full.
+#[test]
+fn dry_lists() {
+    let behind = |case, start: &[Bound]| from_to(case, start, &[(1, 2, -1), (1, 0, 9)]);
+    let unmet = |horizon| behind(r(horizon), &[(1, 2, 2), (1, 0, 0)]);
+    check(&unmet(1), 2, clear(1), [0, 0]);
+    check(&unmet(2), 2, Verdict::Never, [0, 0]);
+    check(&unmet(64), 2, Verdict::Never, [0, 0]);
+    check(&unmet(2), 1, full(1), [0, 0]);
+    check(&behind(r(2), &[(1, 0, 0)]), 2, reached(1), [0, -3]);
+    let nobody = from_to(unmet(1), &[], &[(2, 1, 0)]);
+    check(&nobody, 1, Verdict::Never, [0, 0]);
 }
 
 #[test]

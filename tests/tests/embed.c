@@ -59,7 +59,9 @@ int main(void)
     print_line(kind, fault, value, times);
     printf("%d\n", kind == TRAMCHECK_NEVER);
 
-    /* The start now names the clock too, so that nothing is known later. */
+    /* Now the target can be met, and both patterns name the clock, so that
+     * nothing is known later. */
+    present[105] = 0;
     present[49] = 1;
     kind = tramcheck_verdict_unpacked(1, 1, present, values, ZONES, work,
                                       TRAMCHECK_WORKSPACE(ZONES), &fault,

@@ -2,26 +2,27 @@
 
 use evidence::archive::{self, Answer, Verdict};
 use evidence::case::Case;
-use evidence::checks::{named, noisy, Lent};
+use evidence::checks::{named, noisy, unmet_up_to, Lent};
 use evidence::enumeration::{first_in_box, leads};
 use evidence::faults;
 use evidence::random::{crowded_trial, dense_trial, sharper, trial, Random, Trial};
-use evidence::selections::search;
+use evidence::selections::{search, Outcome};
 use std::thread;
 
 const CASES: u64 = 24_000;
 const WORKERS: u64 = 4;
 
-/// Calls by outcome: reached at 1, reached later, clear, never, table full.
-type Counts = [usize; 5];
+/// Calls by outcome: reached at 1, reached later, clear, never by a repeated
+/// power alone, never by a dry list, table full.
+type Counts = [usize; 6];
 
-fn kind(answer: &Answer) -> usize {
-    match answer.verdict {
+fn kind(outcome: &Outcome) -> usize {
+    match outcome.answer.verdict {
         Verdict::Reached { cycle: 1 } => 0,
         Verdict::Reached { .. } => 1,
         Verdict::Clear { .. } => 2,
-        Verdict::Never => 3,
-        Verdict::Refused(_) => 4,
+        Verdict::Never => 3 + usize::from(outcome.lengths.contains(&0)),
+        Verdict::Refused(_) => 5,
     }
 }
 
@@ -54,19 +55,14 @@ fn compare(seed: u64, random: &mut Random, case: &Case, capacity: usize, expecte
 }
 
 /// Brute search 1: a reached verdict does what it says, and no start of a box
-/// around the clock's zero or around the hidden start does better.
+/// around the clock's zero or around the hidden start contradicts a verdict.
 fn enumerate(seed: u64, trial: &Trial, capacity: usize, answer: &Answer) {
     let case = &trial.case;
     let words = || format!("{answer:?}, {}", named(seed, &case.pack(), capacity));
-    let limit = match answer.verdict {
-        Verdict::Reached { cycle } => {
-            assert!(leads(case, &answer.start, cycle), "{}", words());
-            cycle - 1
-        }
-        Verdict::Clear { horizon } => horizon,
-        Verdict::Never => 80,
-        Verdict::Refused(fault) => fault.returned - 1,
-    };
+    if let Verdict::Reached { cycle } = answer.verdict {
+        assert!(leads(case, &answer.start, cycle), "{}", words());
+    }
+    let limit = unmet_up_to(&answer.verdict);
     let radius = [0, 12, 4, 2, 1, 0, 0, 0][case.n];
     for centre in [[0; 7], trial.near] {
         let met = first_in_box(case, &centre, radius, limit);
@@ -85,7 +81,7 @@ fn judge(
     let outcome = search(&trial.case, capacity);
     compare(seed, random, &trial.case, capacity, &outcome.answer);
     enumerate(seed, trial, capacity, &outcome.answer);
-    counts[kind(&outcome.answer)] += 1;
+    counts[kind(&outcome)] += 1;
     outcome.lengths
 }
 
@@ -102,7 +98,7 @@ fn check(seed: u64, random: &mut Random, trial: &Trial, counts: &mut Counts) {
 }
 
 fn worker(number: u64) -> Counts {
-    let mut counts = [0; 5];
+    let mut counts = [0; 6];
     for seed in (number..CASES).step_by(WORKERS as usize) {
         let mut random = Random::new(seed);
         let trial = trial(&mut random);
@@ -114,7 +110,7 @@ fn worker(number: u64) -> Counts {
 /// Tables without a blank: up to 823,543 selections.
 #[test]
 fn full_tables() {
-    let mut counts = [0; 5];
+    let mut counts = [0; 6];
     for (n, cases) in [(5, 60), (6, 6), (7, 1)] {
         for seed in 8_000_000..8_000_000 + cases {
             let mut random = Random::new(seed);
@@ -123,14 +119,14 @@ fn full_tables() {
         }
     }
     println!("full tables: {counts:?}");
-    let [at_once, _, clear, _, full] = counts;
-    assert!(at_once.min(clear).min(full) >= 10, "{counts:?}");
+    let [at_once, _, clear, _, dry, full] = counts;
+    assert!(at_once.min(clear).min(dry).min(full) >= 10, "{counts:?}");
 }
 
 /// Lists of some hundred zones, with the largest capacity and close ones.
 #[test]
 fn long_lists() {
-    let mut counts = [0; 5];
+    let mut counts = [0; 6];
     for (n, horizon, cases) in [(4, 6, 20), (5, 2, 8), (5, 3, 1)] {
         for seed in 9_000_000..9_000_000 + cases {
             let mut random = Random::new(seed);
@@ -139,7 +135,7 @@ fn long_lists() {
         }
     }
     println!("long lists: {counts:?}");
-    let [_, _, clear, _, full] = counts;
+    let [_, _, clear, _, _, full] = counts;
     assert!(clear.min(full) >= 10, "{counts:?}");
 }
 
@@ -149,7 +145,7 @@ fn archive_and_brute_searches_agree() {
         let workers: Vec<_> = (0..WORKERS)
             .map(|number| scope.spawn(move || worker(number)))
             .collect();
-        let mut sum = [0; 5];
+        let mut sum = [0; 6];
         for worker in workers {
             let counts = worker
                 .join()
@@ -159,10 +155,10 @@ fn archive_and_brute_searches_agree() {
         sum
     });
     let total: usize = counts.iter().sum();
-    println!("reached 1, reached later, clear, never, full: {counts:?} of {total}");
-    // Every outcome makes up at least a twentieth of all calls.
+    println!("reached 1, reached later, clear, never, dry, full: {counts:?} of {total}");
+    // Every outcome makes up at least a hundredth of all calls.
     assert!(
-        counts.iter().all(|&count| 20 * count >= total),
+        counts.iter().all(|&count| 100 * count >= total),
         "{counts:?} of {total}"
     );
 }

@@ -3,19 +3,22 @@ use Prim.Native.Nat.{ℕ, suc, _≤_, _<_}
 use native.Mathlib.Omega.{arith}
 use native.Mathlib.Decide.{decLt}
 use mathlib.Core.Path.{_≡_, refl, ap}
-use mathlib.Core.Logic.{⊎-elim}
+use mathlib.Core.Logic.{_⊎_, inl, inr, ⊎-elim}
 use mathlib.Core.Bool.{true, false}
+use mathlib.Core.List.{[]}
 use mathlib.Core.Option.{Option, none, some}
 use lib.ListN.{length}
 use Rattle.ints.proofs.Integers.{impossible}
 use Rattle.model.specs.Matrix.{Matrix}
 use Rattle.model.specs.Network.{Network}
-use Rattle.model.specs.Search.{lists, firstCommon, someLarge, Outcome, reached, clear, never, tableFull, boundTooLarge, pick, Plan, plan, outcome}
-use Rattle.model.specs.Demands.{Met, NotBefore, First, EndsEarly, EndsAt, NeverHolds}
+use Rattle.model.specs.Search.{lists, firstCommon, someLarge, Outcome, reached, clear, never, tableFull, boundTooLarge, pick}
+use Rattle.model.specs.Search.{Plan, plan, settled, outcome}
+use Rattle.model.specs.Demands.{Met, NotBefore, First, EndsEarly, EndsAt, Repeats, RunsDry, NeverHolds}
 use Rattle.model.specs.Conditions.{Regular}
-use Rattle.model.proofs.Repeats.{repeat-is}
-use Rattle.model.proofs.Searched.{met-by, unmet, Settled, full, large, met, unsettled, settled-is, settledAt}
-use Rattle.model.proofs.Searched.{Ending, stopped, passed, outcome-ends, Short, Planned, whole, short, plan-is}
+use Rattle.model.proofs.Repeats.{repeat-is, repeat-found}
+use Rattle.model.proofs.Dry.{dry-from, early-before}
+use Rattle.model.proofs.Searched.{met-by, unmet, Settled, full, large, met, unsettled, settled-is, Unended, Ending, stopped, dried, passed, outcome-ends}
+use Rattle.model.proofs.Searched.{Short, Planned, whole, short, plan-is}
 
 pub data Concluded (w : Network) (capacity : ℕ) : Outcome → Type 0 where
   reached-at : {d : Matrix} {k : ℕ} → First w k → firstCommon (w .n) (w .start) (lists w k) ≡ some d → (EndsEarly w capacity → ⊥)
@@ -23,7 +26,7 @@ pub data Concluded (w : Network) (capacity : ℕ) : Outcome → Type 0 where
   table-full : {k : ℕ} → EndsAt w capacity k → capacity < length (lists w k) → Concluded w capacity (tableFull k)
   bound-too-large : {k : ℕ} → k ≤ w .horizon → EndsAt w capacity k → length (lists w k) ≤ capacity → someLarge (lists w k) ≡ true
       → Concluded w capacity (boundTooLarge k)
-  clear-at : (Short w → ⊥) → NotBefore w (suc (w .horizon)) → (EndsEarly w capacity → ⊥) → Concluded w capacity (clear (w .horizon))
+  clear-at : (Repeats w ⊎ RunsDry w → ⊥) → NotBefore w (suc (w .horizon)) → (EndsEarly w capacity → ⊥) → Concluded w capacity (clear (w .horizon))
   never-at : NeverHolds w capacity → Concluded w capacity never
 
 module _ (w : Network) (capacity : ℕ) (reg : Regular (w .n) (w .times)) (some-row : 1 ≤ w .n) where
@@ -35,8 +38,20 @@ module _ (w : Network) (capacity : ℕ) (reg : Regular (w .n) (w .times)) (some-
   open-at k (met h l f) e = impossible cc
   open-at k (unsettled h l f) e = (h, l, unmet w reg k f)
 
-  not-before : (j : ℕ) → ((i : ℕ) → 1 ≤ i → i < j → settledAt w capacity i ≡ none) → NotBefore w j
-  not-before j before i l u = open-at i (settled-is w capacity i (lists w i)) (before i l u) .2
+  -- no cycle up to k ends the search
+  abbrev Open : ℕ → Type 0
+  Open k = Unended (lists w) (settled w capacity) k
+
+  nothing-at : {k : ℕ} → Open k → (i : ℕ) → 1 ≤ i → i ≤ k
+      → (length (lists w i) ≤ capacity) × (someLarge (lists w i) ≡ false) × (Met w i → ⊥)
+  nothing-at all i l u = open-at i (settled-is w capacity i (lists w i)) (all i l u)
+
+  not-before : {k : ℕ} → Open k → NotBefore w (suc k)
+  not-before all i l u = nothing-at all i l (omega arith) .2
+
+  not-early : {k : ℕ} → Open k → (e : EndsEarly w capacity) → e .at ≤ k → ⊥
+  not-early all e h =
+      let (f, g, _) = nothing-at all (e .at) (e .from-one) h in ⊎-elim (λ k. omega arith) (λ k. impossible cc) (e .too-much)
 
   -- where no list up to cycle j is too much, and the target is met there, the search does not end early
   met-first : (j : ℕ) → 1 ≤ j → Met w j → EndsAt w capacity j → length (lists w j) ≤ capacity → someLarge (lists w j) ≡ false → EndsEarly w capacity → ⊥
@@ -63,36 +78,50 @@ module _ (w : Network) (capacity : ℕ) (reg : Regular (w .n) (w .times)) (some-
   settles j l h ends (unsettled f g k) p e = impossible cc
 
   -- past all cycles
-  never-early : ((i : ℕ) → 1 ≤ i → i ≤ plan w .cycles → settledAt w capacity i ≡ none) → EndsEarly w capacity → ⊥
-  never-early all early =
-      let (h, l, _) = open-at (early .at) (settled-is w capacity (early .at) (lists w (early .at))) (all (early .at) (early .from-one) (early .searched)) in
-      ⊎-elim (λ k. omega arith) (λ k. impossible cc) (early .too-much)
+  short-of : Repeats w → Short w
+  short-of s =
+      let (r, e, same) = repeat-found w reg some-row (s .first) in
+      record { again = r; first = e; proviso = s .proviso; long-enough = omega (arith, s .long-enough) }
 
-  past : {p : Plan} → Planned w p → plan w ≡ p → ((i : ℕ) → 1 ≤ i → i ≤ plan w .cycles → settledAt w capacity i ≡ none) → Concluded w capacity (p .end)
-  past (whole no-short) e all =
-      clear-at no-short (not-before (suc (w .horizon)) (λ i l u. all i l (omega (arith, ap (λ (p : Plan). p .cycles) e)))) (never-early all)
-  past (short s) e all = never-at (record {
-    again = s .again;
-    first = repeat-is w reg some-row (s .first);
-    proviso = s .proviso;
-    long-enough = s .long-enough;
-    unmet = not-before (s .again .q) (λ i l u. all i l (omega (arith, ap (λ (p : Plan). p .cycles) e)));
-    not-early = never-early all;
-  })
+  past : {p : Plan} → Planned w p → plan w ≡ p → Open (plan w .cycles) → (lists w (plan w .cycles) ≡ [] → ⊥) → Concluded w capacity (p .end)
+  past (whole no-short) e all wet =
+      let last = ap (λ (p : Plan). p .cycles) e in
+      clear-at (⊎-elim (λ s. no-short (short-of s)) (λ d. wet (dry-from w (d .at) (plan w .cycles) (d .searched) (d .empty))))
+      (λ i l u. not-before all i l (omega (arith, last))) (λ f. not-early all f (f .searched))
+  past (short s) e all wet =
+      let last = ap (λ (p : Plan). p .cycles) e in
+      never-at (record {
+        cause = inl (record {
+          again = s .again;
+          first = repeat-is w reg some-row (s .first);
+          proviso = s .proviso;
+          long-enough = s .long-enough;
+          unmet = λ i l u. not-before all i l (omega (arith, last));
+        });
+        not-early = λ f. not-early all f (f .searched);
+      })
+
+  -- at an empty list
+  dry-at : (j : ℕ) → j ≤ plan w .cycles → Open j → lists w j ≡ [] → NeverHolds w capacity
+  dry-at j l all d = record {
+    cause = inr (record { at = j; searched = l; empty = d; unmet = λ i h u. not-before all i h (omega arith) });
+    not-early = λ e. not-early all e (omega (arith, early-before w capacity j d e));
+  }
 
   to-horizon : {p : Plan} → Planned w p → p .cycles ≤ w .horizon
   to-horizon (whole h) = omega arith
   to-horizon (short s) = s .long-enough
 
-  concluded : {o : Outcome} → Ending w capacity (plan w .cycles) (plan w .end) o → Concluded w capacity o
-  concluded (stopped {o} j l u before e) =
-      settles j l (to-horizon (plan-is w)) (record {
-        from-one = l;
+  concluded : {o : Outcome} → Ending w capacity o → Concluded w capacity o
+  concluded (stopped {o} j u all e) =
+      settles (suc j) (omega arith) (to-horizon (plan-is w)) (record {
+        from-one = omega arith;
         searched = u;
-        unmet = not-before j before;
-        fit-before = λ i li ui. let (h, g, _) = open-at i (settled-is w capacity i (lists w i)) (before i li ui) in (h, g);
-      }) (settled-is w capacity j (lists w j)) o e
-  concluded (passed all) = past (plan-is w) refl all
+        unmet = not-before all;
+        fit-before = λ i l h. let (f, g, _) = nothing-at all i l (omega arith) in (f, g);
+      }) (settled-is w capacity (suc j) (lists w (suc j))) o e
+  concluded (dried j l all d) = never-at (dry-at j l all d)
+  concluded (passed all wet) = past (plan-is w) refl all wet
 
   pub conclusion : Concluded w capacity (outcome w capacity)
   conclusion = concluded (outcome-ends w capacity)

@@ -22,17 +22,17 @@ use Rattle.model.specs.Faults.{network, callFault}
 use Rattle.model.specs.Answers.{seconds, cycleNumber, allTimes, numbersOf, refusal, answered, answer, workspaceAfter, answerPacked, workspaceAfterPacked}
 use Rattle.model.specs.Zones.{ListsOfZones}
 use Rattle.model.specs.Demands as D
-use Rattle.model.specs.Demands.{InLimits, TooMuch, Ended, Demand1, Witness, NotBefore, First, EndsEarly, EndsAt}
-use Rattle.model.specs.Demands.{FullAt, LargeAt, Demand2, NeverHolds, Demand3, Demands, PackedDemands}
+use Rattle.model.specs.Demands.{InLimits, TooMuch, Ended, Demand1, Witness, Met, NotBefore, First, EndsEarly, EndsAt}
+use Rattle.model.specs.Demands.{FullAt, LargeAt, Demand2, Repeats, RunsDry, NeverHolds, Demand3, Demands, PackedDemands}
 use Rattle.model.specs.Conditions.{Regular}
 use Rattle.model.proofs.ZoneSets.{lists-of-zones}
 use Rattle.model.proofs.Start.{pick-length}
 use Rattle.model.proofs.Searched.{met-by}
-use Rattle.model.proofs.Repeats.{repeat-found}
 use Rattle.model.proofs.Limits.{limits-of}
 use Rattle.model.proofs.Sizes.{none-large}
 use Rattle.model.proofs.Parsed.{parsed-call}
 use Rattle.model.proofs.Beyond.{beyond}
+use Rattle.model.proofs.Dry.{dry-beyond}
 use Rattle.model.proofs.Concluded as concluded
 use Rattle.model.proofs.Concluded.{Concluded, reached-at, clear-at, never-at, conclusion}
 
@@ -101,12 +101,16 @@ module _ (w : Network) (capacity : ℕ) (reg : Regular (w .n) (w .times)) (some-
   early : {k : ℕ} → EndsAt w capacity k → TooMuch w capacity k → EndsEarly w capacity
   early {k} e t = record { at = k; from-one = e .from-one; searched = e .searched; too-much = t; unmet = e .unmet }
 
+  -- never means never
+  never-met : NeverHolds w capacity → (k : ℕ) → 1 ≤ k → Met w k → ⊥
+  never-met h = ⊎-elim (λ s. beyond w reg (s .again) (s .first) (s .proviso) (s .unmet)) (dry-beyond w reg) (h .cause)
+
   only-first : {o : Outcome} → Concluded w capacity o → (EndsEarly w capacity → ⊥) → (k : ℕ) → First w k → Verdict-of o ≡ verdict.Reached (cycleNumber k)
   only-first (reached-at f s a) d k g = ap (λ (i : ℕ). verdict.Reached (cycleNumber i)) (first-once f g)
   only-first (concluded.table-full e h) d k g = absurd (d (early e (inl h)))
   only-first (concluded.bound-too-large l e f h) d k g = absurd (d (early e (inr h)))
   only-first (clear-at s unmet a) d k g = absurd (unmet k (g .from-one) (let h = g .to-horizon in omega arith) (g .met))
-  only-first (never-at h) d k g = absurd (beyond w reg (h .again) (h .first) (h .proviso) (h .unmet) k (g .from-one) (g .met))
+  only-first (never-at h) d k g = absurd (never-met h k (g .from-one) (g .met))
 
   started : {o : Outcome} → Concluded w capacity o → (k : ℕ) → Verdict-of o ≡ verdict.Reached (cycleNumber k)
       → Witness w k (map (λ x. x .0) (take (w .n) (answered o .start)))
@@ -123,16 +127,19 @@ module _ (w : Network) (capacity : ℕ) (reg : Regular (w .n) (w .times)) (some-
   otherwise (clear-at s u a) d unmet = inl refl
   otherwise (never-at h) d unmet = inr refl
 
+  -- clear: neither cause of never
+  clear-means : {o : Outcome} → Concluded w capacity o → Verdict-of o ≡ verdict.Clear (cycleNumber (w .horizon)) → (Repeats w → ⊥) × (RunsDry w → ⊥)
+  clear-means (reached-at f s a) e = impossible cc
+  clear-means (concluded.table-full f h) e = impossible cc
+  clear-means (concluded.bound-too-large l s f h) e = impossible cc
+  clear-means (clear-at neither unmet a) e = (λ s. neither (inl s), λ d. neither (inr d))
+  clear-means (never-at h) e = impossible cc
+
   never-exactly : {o : Outcome} → Concluded w capacity o → (Verdict-of o ≡ verdict.Never) ↔ NeverHolds w capacity
-  never-exactly (reached-at f s a) =
-      (λ e. impossible cc, λ h. absurd (beyond w reg (h .again) (h .first) (h .proviso) (h .unmet) _ (f .from-one) (f .met)))
+  never-exactly (reached-at f s a) = (λ e. impossible cc, λ h. absurd (never-met h _ (f .from-one) (f .met)))
   never-exactly (concluded.table-full e f) = (λ e. impossible cc, λ h. absurd (h .not-early (early e (inl f))))
   never-exactly (concluded.bound-too-large l e g f) = (λ e. impossible cc, λ h. absurd (h .not-early (early e (inr f))))
-  never-exactly (clear-at no-short unmet a) = (
-    λ e. impossible cc,
-    λ h. let (s, e, same) = repeat-found w reg some-row (h .first) in
-        absurd (no-short (record { again = s; first = e; proviso = h .proviso; long-enough = omega (arith, h .long-enough) })),
-  )
+  never-exactly (clear-at neither unmet a) = (λ e. impossible cc, λ h. absurd (neither (h .cause)))
   never-exactly (never-at h) = (λ e. h, λ g. refl)
 
   -- two lists cannot both end the search
@@ -218,10 +225,13 @@ module _ (c : Case) (capacity size : ℕ) (limits : InLimits c capacity size) wh
   never-is = rw (answer-in c capacity size limits) (never-exactly (network c) capacity regular-case some-departures concludes)
 
   pub demand3 : Demand3 c capacity (answer c capacity size)
+  unfolding network
   demand3 = record {
     beyond = beyond (network c) regular-case;
+    dry-beyond = dry-beyond (network c) regular-case;
     exactly = never-is;
-    without-end = λ e. let h = never-is .0 e in beyond (network c) regular-case (h .again) (h .first) (h .proviso) (h .unmet);
+    clear = rw (answer-in c capacity size limits) (clear-means w capacity regular-case some-departures concludes);
+    without-end = λ e. never-met w capacity regular-case some-departures (never-is .0 e);
   }
 
 pub demands : (c : Case) (capacity : ℕ) (work : List ℤ) → Demands c capacity work (answer c capacity (length work)) (workspaceAfter c capacity work)

@@ -29,6 +29,7 @@ pub mod Start
 pub mod Gap
 pub mod Size
 pub mod Searched
+pub mod Dry
 pub mod Sizes
 pub mod Fitted
 pub mod Beyond

@@ -1,7 +1,7 @@
 -- The search, cycle by cycle: what list k settles, when the target is met, and how the search ends.
 use Prim.Native.Nat.{ℕ, zero, suc, _+_, _-_, _≤_, _<_, min}
 use native.Mathlib.Omega.{arith}
-use mathlib.Core.Path.{_≡_, refl, _∙_}
+use mathlib.Core.Path.{_≡_, refl, ap, _∙_}
 use mathlib.Core.Bool.{Bool, true, false, cond, _||_}
 use mathlib.Core.List.{List, [], _∷_}
 use mathlib.Core.Option.{Option, none, some, Option·map}
@@ -14,8 +14,8 @@ use Rattle.model.specs.Bound.{Bound}
 use Rattle.model.specs.Matrix.{Matrix}
 use Rattle.model.specs.Pattern.{onlyDifferences}
 use Rattle.model.specs.Network.{Network, clocked, Repeat, repeatOf}
-use Rattle.model.specs.Search.{lists, common, firstCommon, pick, Outcome, reached, clear, never, tableFull}
-use Rattle.model.specs.Search.{boundTooLarge, Plan, planWith, plan, someLarge, settled, searchFrom, outcome}
+use Rattle.model.specs.Search.{lists, previous, common, firstCommon, pick, Outcome, reached, clear, never, tableFull}
+use Rattle.model.specs.Search.{boundTooLarge, Plan, planWith, plan, someLarge, settled, dry, searchBy, searchFrom, outcome}
 use Rattle.model.specs.Demands.{Witness, Met, Differences}
 use Rattle.model.specs.Conditions.{Regular}
 use Rattle.model.proofs.Listed.{one-more, some-map, some-at, every-some}
@@ -84,35 +84,52 @@ settled-is w capacity k zs = go (ltb capacity (length zs)) (someLarge zs) (first
     go false false (some c) e f g = met (omega (arith, ltb-false)) f g
     go false false none e f g = unsettled (omega (arith, ltb-false)) f g
 
-abbrev pub settledAt : Network → ℕ → ℕ → Option Outcome
-settledAt w capacity k = settled w capacity k (lists w k)
+-- ---- how a search ends, whatever makes its lists and ends it: at a cycle that ends it, at an empty list, or past all cycles
+-- the cycles from 1 to k do not end it
+abbrev pub Unended : (ℕ → List Matrix) → (ℕ → List Matrix → Option Outcome) → ℕ → Type 0
+Unended list ends k = (i : ℕ) → 1 ≤ i → i ≤ k → ends i (list i) ≡ none
 
--- ---- how r cycles of search end: at a cycle that settles it, or past them all
-pub data Ending (w : Network) (capacity last : ℕ) (end : Outcome) : Outcome → Type 0 where
-  stopped : {o : Outcome} (j : ℕ) → 1 ≤ j → j ≤ last → ((i : ℕ) → 1 ≤ i → i < j → settledAt w capacity i ≡ none)
-      → settledAt w capacity j ≡ some o → Ending w capacity last end o
-  passed : ((i : ℕ) → 1 ≤ i → i ≤ last → settledAt w capacity i ≡ none) → Ending w capacity last end end
+pub data EndingBy (list : ℕ → List Matrix) (ends : ℕ → List Matrix → Option Outcome) (last : ℕ) (end : Outcome) : Outcome → Type 0 where
+  stopped : {o : Outcome} (j : ℕ) → j < last → Unended list ends j → ends (suc j) (list (suc j)) ≡ some o → EndingBy list ends last end o
+  dried : (j : ℕ) → j ≤ last → Unended list ends j → list j ≡ [] → EndingBy list ends last end never
+  passed : Unended list ends last → (list last ≡ [] → ⊥) → EndingBy list ends last end end
 
-module _ (w : Network) (capacity last : ℕ) (end : Outcome) where
-  Before : ℕ → Type 0
-  Before k = (i : ℕ) → 1 ≤ i → i < k → settledAt w capacity i ≡ none
+module _ (step : List Matrix → List Matrix) (list : ℕ → List Matrix) (next : (k : ℕ) → list (suc k) ≡ step (list k))
+    (ends : ℕ → List Matrix → Option Outcome) (last : ℕ) (end : Outcome) where
+  abbrev By : Outcome → Type 0
+  By = EndingBy list ends last end
 
-  ending-from : (r k : ℕ) → last ≡ k + r → Before (suc k) → Ending w capacity last end (searchFrom w capacity r (suc k) (lists w k) end)
-  unfolding searchFrom lists Before
-  ending-from zero k e before = passed (λ i l u. before i l (omega arith))
+  -- the test of a list
+  tested : {o : Outcome} (zs : List Matrix) → (zs ≡ [] → By never) → ((zs ≡ [] → ⊥) → By o) → By (cond (dry zs) never o)
+  unfolding dry
+  tested [] h g = h refl
+  tested (z ∷ zs) h g = g (λ d. let q : suc (length zs) ≡ 0 = ap length d in omega arith)
+
+  ending-from : (r k : ℕ) → last ≡ k + r → Unended list ends k → By (searchBy step ends r (suc k) (list k) end)
+  unfolding searchBy
+  ending-from zero k e before =
+      let same : last ≡ k = omega arith in tested (list k) (dried k (omega arith) before) (λ no. passed (rw same before) (rw same no))
   ending-from (suc r) k e before =
-      go (settledAt w capacity (suc k)) refl (λ h. ending-from r (suc k) (omega arith) (λ i l u.
-      one-more (λ i. 1 ≤ i → settledAt w capacity i ≡ none) (suc k) (λ i u l. before i l u) (λ l. h) i u l))
+      tested (list k) (dried k (omega arith) before) (λ no. go (step (list k)) (next k) (ends (suc k) (step (list k))) refl
+      (λ h. ending-from r (suc k) (omega arith) (λ i l u.
+      one-more (λ i. 1 ≤ i → ends i (list i) ≡ none) (suc k) (λ i u l. before i l (omega arith)) (λ l. h) i (omega arith) l)))
     where
-      go : (o : Option Outcome) → settledAt w capacity (suc k) ≡ o
-          → (settledAt w capacity (suc k) ≡ none → Ending w capacity last end (searchFrom w capacity r (suc (suc k)) (lists w (suc k)) end))
-          → Ending w capacity last end (elim o [ some o ↦ o | none ↦ searchFrom w capacity r (suc (suc k)) (lists w (suc k)) end ])
-      go (some o) h rest = stopped (suc k) (omega arith) (omega arith) before h
-      go none h rest = rest h
+      go : (zs : List Matrix) → list (suc k) ≡ zs → (o : Option Outcome) → ends (suc k) zs ≡ o
+          → (ends (suc k) (list (suc k)) ≡ none → By (searchBy step ends r (suc (suc k)) (list (suc k)) end))
+          → By (elim o [ some o ↦ o | none ↦ searchBy step ends r (suc (suc k)) zs end ])
+      go zs same (some o) h rest = stopped {o = o} k (omega arith) before (rw same h)
+      go zs same none h rest = rw same at (rest (rw same h))
 
-pub outcome-ends : (w : Network) (capacity : ℕ) → Ending w capacity (plan w .cycles) (plan w .end) (outcome w capacity)
-unfolding outcome Before
-outcome-ends w capacity = ending-from w capacity (plan w .cycles) (plan w .end) (plan w .cycles) 0 (omega arith) (λ i l u. absurd (omega arith))
+  pub search-ends : By (searchBy step ends last 1 (list 0) end)
+  search-ends = ending-from last 0 (omega arith) (λ i l u. absurd (omega arith))
+
+-- over the network's lists
+abbrev pub Ending : Network → ℕ → Outcome → Type 0
+Ending w capacity = EndingBy (lists w) (settled w capacity) (plan w .cycles) (plan w .end)
+
+pub outcome-ends : (w : Network) (capacity : ℕ) → Ending w capacity (outcome w capacity)
+unfolding outcome searchFrom lists
+outcome-ends w capacity = search-ends (previous (w .n) (w .times)) (lists w) (λ k. refl) (settled w capacity) (plan w .cycles) (plan w .end)
 
 -- ---- the plan: to the horizon, or to the cycle before a first repeated power within it
 pub record Short (w : Network) : Type 0 where

@@ -3,7 +3,7 @@ use Prim.Native.Nat.{ℕ, suc, _-_, _<_, _≤_}
 use mathlib.Core.Path.{_≡_}
 use mathlib.Core.Logic.{_↔_, _⊎_}
 use mathlib.Core.Bool.{true, false, _||_}
-use mathlib.Core.List.{List, map}
+use mathlib.Core.List.{List, [], map}
 use mathlib.Core.Option.{none, some}
 use lib.IntN.{ℤ, pos}
 use lib.ListN.{length, take, replicate}
@@ -111,20 +111,33 @@ pub record LeastRepeat (w : Network) (r : Repeat) : Type 0 where
   pub repeated : Repeated w (r .q) (r .p) (r .number)
   pub first : (q p : ℕ) (number : ℤ) → q < r .q → Repeated w q p number → ⊥
 
--- the five conditions of never
-pub record NeverHolds (w : Network) (capacity : ℕ) : Type 0 where
+-- a cause of never: a first repeated power within the horizon, start or target bounds only differences, and nothing is met before it
+pub record Repeats (w : Network) : Type 0 where
   pub again : Repeat
   pub first : LeastRepeat w again
   pub proviso : Differences w
   pub long-enough : again .q - 1 ≤ w .horizon
   pub unmet : NotBefore w (again .q)
+
+-- another: a list from 0 to M is empty, and nothing is met before it
+pub record RunsDry (w : Network) : Type 0 where
+  pub at : ℕ
+  pub searched : at ≤ plan w .cycles
+  pub empty : lists w at ≡ []
+  pub unmet : NotBefore w at
+
+-- the condition of never
+pub record NeverHolds (w : Network) (capacity : ℕ) : Type 0 where
+  pub cause : Repeats w ⊎ RunsDry w
   pub not-early : EndsEarly w capacity → ⊥
 
 -- of the answer r, for a case within the limits
 pub record Demand3 (c : Case) (capacity : ℕ) (r : Answer) : Type 0 where
   pub beyond : (again : Repeat) → LeastRepeat (network c) again → Differences (network c) → NotBefore (network c) (again .q)
       → (k : ℕ) → 1 ≤ k → Met (network c) k → ⊥
+  pub dry-beyond : RunsDry (network c) → (k : ℕ) → 1 ≤ k → Met (network c) k → ⊥
   pub exactly : (r .verdict ≡ verdict.Never) ↔ NeverHolds (network c) capacity
+  pub clear : r .verdict ≡ verdict.Clear (c .horizon) → (Repeats (network c) → ⊥) × (RunsDry (network c) → ⊥)
   pub without-end : r .verdict ≡ verdict.Never → (k : ℕ) → 1 ≤ k → Met (network c) k → ⊥
 
 pub record Demands (c : Case) (capacity : ℕ) (work : List ℤ) (r : Answer) (after : List ℤ) : Type 0 where

@@ -1,4 +1,4 @@
--- The examples that document 01 marks (P), and those that document 02 adds: one list, one claim.
+-- The examples that document 01 marks (P), as document 02 changes them and adds to them: one list, one claim.
 use Prim.Native.Nat.{ℕ}
 use lib.IntN.{ℤ, pos, negsuc}
 use mathlib.Core.Path.{_≡_, refl}
@@ -83,7 +83,7 @@ examples =
     ∷ run-of (R 3 any2 any2) (pos 0 ∷ pos 0 ∷ []) 2 (pos 8 ∷ pos 8 ∷ [])
     ∷ verdict-of (R 1 (d-within (present (pos 0)) nothing) (d-within (present (pos 1)) (present (pos 1)))) 128 (clear 1)
     ∷ verdict-of (R 3 any2 (d-within nothing (present (negsuc 2)))) 128 never
-    ∷ verdict-of (R 2 any2 (d-within nothing (present (negsuc 2)))) 128 (clear 2)
+    ∷ verdict-of (R 2 any2 (d-within nothing (present (negsuc 2)))) 128 never
     ∷ verdict-of (S 2 d-is-1 d-is-1) 128 (reached 2 (pos 0 ∷ negsuc 0 ∷ []))
     ∷ verdict-of (S 1 d-is-1 d-is-1) 128 (clear 1)
     ∷ verdict-of (O 5 x-is-0 x-is-5) 128 (reached 5 (pos 0 ∷ []))
@@ -100,6 +100,6 @@ unfolding L.tabulate L.anyOf L.allOf mathlib.Core.List.flatten mathlib.Core.List
     N.time N.isTime N.regular N.later N.latest N.after N.secsOf N.clocked N.next N.cycle N.cycles N.product N.powersFrom N.added N.gap N.sameTime
     L.sameLists N.repeats N.firstRepeat N.repeatOf X.columns X.selections X.chosen X.slack X.attains X.keeps X.rowConstraints X.rowsConstraints X.preimage
     X.keep X.previous X.lists X.common X.firstCommon X.tightest X.above X.below X.greatestOr X.choices X.pick X.planWith X.plan X.large X.someLarge X.settled
-    X.searchFrom X.outcome F.timeOf F.boundOf F.network F.beyond F.entryFault F.rowsFault F.outside F.tableFault F.patternsFault F.caseFault F.roomFault
-    F.callFault F.runFault answer run
+    X.dry X.searchBy X.searchFrom X.outcome F.timeOf F.boundOf F.network F.beyond F.entryFault F.rowsFault F.outside F.tableFault F.patternsFault
+    F.caseFault F.roomFault F.callFault F.runFault answer run
 all-right = (refl, (refl, (refl, (refl, (refl, (refl, (refl, (refl, (refl, (refl, (refl, (refl, (refl, (refl, (refl, (refl, (refl, tt)))))))))))))))))

@@ -138,12 +138,22 @@ settled w capacity k zs =
     (orElse (when (someLarge zs) (boundTooLarge k))
     (Option·map (λ c. reached k (pick (w .n) c)) (firstCommon (w .n) (w .start) zs)))
 
--- r cycles from cycle k on, with the list before it
+-- no zone is left
+unfoldable pub dry : List Matrix → Bool
+dry [] = true
+dry (z ∷ zs) = false
+
+-- r cycles from cycle k on, with the list before it: step makes the next list, ends says how a list ends the search, if it does.
+-- From a dry list on the target is never met
+unfoldable pub searchBy : (List Matrix → List Matrix) → (ℕ → List Matrix → Option Outcome) → ℕ → ℕ → List Matrix → Outcome → Outcome
+searchBy step ends zero k zs end = cond (dry zs) never end
+searchBy step ends (suc r) k zs end =
+    let zs′ = step zs in
+    cond (dry zs) never (elim (ends k zs′) [ some o ↦ o | none ↦ searchBy step ends r (suc k) zs′ end ])
+
+-- over the network's lists
 unfoldable pub searchFrom : Network → ℕ → ℕ → ℕ → List Matrix → Outcome → Outcome
-searchFrom w capacity zero k zs end = end
-searchFrom w capacity (suc r) k zs end =
-    let zs′ = previous (w .n) (w .times) zs in
-    elim (settled w capacity k zs′) [ some o ↦ o | none ↦ searchFrom w capacity r (suc k) zs′ end ]
+searchFrom w capacity r k zs end = searchBy (previous (w .n) (w .times)) (settled w capacity) r k zs end
 
 unfoldable pub outcome : Network → ℕ → Outcome
 outcome w capacity = searchFrom w capacity (plan w .cycles) 1 (lists w 0) (plan w .end)

@@ -1,5 +1,5 @@
 -- The loop over the cycles: list k stands at one half, and what is left of the search is the search from cycle k + 1 on.
-use Prim.Native.Nat.{ℕ, suc, _*_, _-_, _≤_, _<_}
+use Prim.Native.Nat.{ℕ, zero, suc, _*_, _-_, _≤_, _<_}
 use native.Mathlib.Omega.{arith}
 use native.Mathlib.Nat.{mul-le-mul-right}
 use mathlib.Core.Path.{_≡_, refl, sym, ap, _∙_}
@@ -12,10 +12,11 @@ use lib.ListN.{length, drop}
 use borrow.Author.Tests.{lt-ltb, le-ltb}
 use Rattle.ints.proofs.Integers.{impossible}
 use Rattle.model.specs.Sizes.{mostCycles, zoneSize}
-use Rattle.model.specs.Lists.{done, both}
+use Rattle.model.specs.Lists.{tabulate, done, both}
 use Rattle.model.specs.Matrix.{Matrix, everything}
 use Rattle.model.specs.Network.{Network}
-use Rattle.model.specs.Search.{Outcome, reached, tableFull, pick, lists, previous, someLarge, firstCommon, settled, searchFrom}
+use Rattle.model.specs.Search.{Outcome, reached, never, tableFull, pick, lists, previous}
+use Rattle.model.specs.Search.{someLarge, firstCommon, settled, dry, searchBy, searchFrom}
 use Rattle.model.specs.Answers.{answered}
 use Rattle.model.proofs.Listed.{every-both}
 use Rattle.model.proofs.Closed.{everything-closed}
@@ -41,6 +42,17 @@ module _ (w : Network) (capacity k : ℕ) (zs : List Matrix) where
     settled-on : firstCommon (w .n) (w .start) zs ≡ none → settled w capacity k zs ≡ none
     unfolding settled
     settled-on e = rw (le-ltb capacity (length zs) room, small, e)
+
+-- the search from an empty list on, and a list with a zone
+from-dry : (w : Network) (capacity r k : ℕ) (e : Outcome) → searchFrom w capacity r k [] e ≡ never
+unfolding searchFrom searchBy dry
+from-dry w capacity zero k e = refl
+from-dry w capacity (suc r) k e = refl
+
+not-dry : (size count : ℕ) (work : List ℤ) → 1 ≤ count → dry (listIn size count work) ≡ false
+unfolding dry listIn tabulate
+not-dry size zero work h = absurd (omega arith)
+not-dry size (suc count) work h = refl
 
 module _ {n capacity cycles size : ℕ} {times start target : List ℤ} (q : Searchable n capacity cycles size times start target) where
   abbrev w : Network
@@ -81,13 +93,22 @@ module _ {n capacity cycles size : ℕ} {times start target : List ℤ} (q : Sea
   pub source-in : {work : List ℤ} {count source k : ℕ} → Reached work count source k → source ≤ capacity * zoneSize n
   source-in r = ⊎-elim (λ e. omega arith) (λ e. omega arith) (r .at)
 
-  -- past the last cycle
-  pub past : {work : List ℤ} {count source : ℕ} (k : ℕ) → Reached work count source k → cycles ≤ k → (e : Outcome)
-      → searchFrom w capacity cycles 1 (lists w 0) e ≡ e
-  unfolding searchFrom
-  past k r h e = let z : cycles - k ≡ 0 = omega arith in r .rest e ∙ rw z
+  -- no zone is left
+  pub dried : {work : List ℤ} {count source k : ℕ} → Reached work count source k → count ≡ 0 → (e : Outcome)
+      → searchFrom w capacity cycles 1 (lists w 0) e ≡ never
+  unfolding listIn tabulate
+  dried {k} r h e = let none : lists w k ≡ [] = sym (r .list) ∙ rw h in r .rest e ∙ rw none (from-dry w capacity (cycles - k) (suc k) e)
 
-  module _ {work : List ℤ} {count source k : ℕ} (r : Reached work count source k) (more : k < cycles) where
+  wet : {work : List ℤ} {count source k : ℕ} → Reached work count source k → 1 ≤ count → dry (lists w k) ≡ false
+  wet {work} {count} {source} r h = rw (← (r .list)) (not-dry (zoneSize n) count (drop source work) h)
+
+  -- past the last cycle
+  pub past : {work : List ℤ} {count source : ℕ} (k : ℕ) → Reached work count source k → 1 ≤ count → cycles ≤ k → (e : Outcome)
+      → searchFrom w capacity cycles 1 (lists w 0) e ≡ e
+  unfolding searchFrom searchBy
+  past k r zone h e = let z : cycles - k ≡ 0 = omega arith in r .rest e ∙ rw (z, wet r zone)
+
+  module _ {work : List ℤ} {count source k : ℕ} (r : Reached work count source k) (some-zone : 1 ≤ count) (more : k < cycles) where
     abbrev goal : ℕ
     goal = capacity * zoneSize n - source
 
@@ -124,10 +145,10 @@ module _ {n capacity cycles size : ℕ} {times start target : List ℤ} (q : Sea
 
     from-here : (o : Option Outcome) → settled w capacity (suc k) (lists w (suc k)) ≡ o → (e : Outcome)
         → searchFrom w capacity cycles 1 (lists w 0) e ≡ onwards e o
-    unfolding searchFrom lists
+    unfolding searchFrom searchBy lists
     from-here o s e =
         let d : cycles - k ≡ suc (cycles - suc k) = omega arith in
-        r .rest e ∙ rw d (ap (onwards e) s)
+        r .rest e ∙ rw (d, wet r some-zone) (ap (onwards e) s)
 
     module _ {after : List ℤ} {s : Step}
         (h : Stepped n capacity (suc k) goal (boundsIn start) (previous n (timesIn times) (listIn (zoneSize n) count (drop source work))) after s) where

@@ -1,4 +1,4 @@
-// The search: list after list, until one meets the start, the table is full, or the cycles are searched.
+// The search: list after list, until one meets the start, the table is full, no zone is left, or the cycles are searched.
 ghost use mathlib.Core.Path.{_≡_};
 ghost use mathlib.Core.List.{[]};
 ghost use mathlib.Core.Bool.{true};
@@ -123,7 +123,7 @@ pub fn search(
     let mut seen = [0i32; lists::SEEN];
     let mut source = 0;
     let mut k = 0;
-    while k < last {
+    while k < last && count > 0 {
         let goal = half - source;
         k += 1;
         let next = one_cycle(
@@ -143,6 +143,9 @@ pub fn search(
         }
         count = next.count;
         source = goal;
+    }
+    if count == 0 {
+        return plain(Verdict::Never);
     }
     past(end)
 }

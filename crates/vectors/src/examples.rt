@@ -87,30 +87,49 @@ fn drifting() {
     example(two(64, table, cases::d_within(0, 0), cases::d_within(1, 1)));
 }
 
-// The first repeated power shows as the least N for which never is the verdict.
+// R, d = 0 to d = 1.
+fn level(horizon: usize) {
+    example(two(
+        horizon,
+        cases::r(),
+        cases::d_within(0, 0),
+        cases::d_within(1, 1),
+    ));
+}
+
+// Where no list runs dry, the first repeated power shows as the least N for which never is the verdict.
 fn powers() {
-    far(1);
-    far(64);
-    unmet(2);
+    level(2);
+    level(3);
+    level(64);
     swapped(2, 1);
     swapped(2, 2);
     swapped(2, 3);
-    nobody();
     drifting();
 }
 
-// R, to x1 = 0 and d >= 3.
-fn clock(start: [Slot; BOUNDS], horizon: usize) {
-    let target = cases::within(cases::d_at_least(3), 2, 1, 0, 0, 0);
+// R, to the pattern with x1 = 0 besides.
+fn clock(start: [Slot; BOUNDS], pattern: [Slot; BOUNDS], horizon: usize) {
+    let target = cases::within(pattern, 2, 1, 0, 0, 0);
     example(two(horizon, cases::r(), start, target));
 }
 
-// Never needs a pattern that bounds only differences: one of the two is enough.
+// A list without a zone means never, at every N and with clock bounds in both patterns.
+fn dry() {
+    far(1);
+    far(64);
+    unmet(2);
+    nobody();
+    clock(cases::at_times(0, 0), cases::d_at_least(3), 3);
+    clock(cases::at_times(0, 0), cases::d_at_least(3), 64);
+}
+
+// A repeated power needs a pattern that bounds only differences to mean never: one of the two is enough.
 fn clocks() {
-    example(two(3, cases::r(), cases::at_times(0, 0), cases::d_at_least(3)));
-    clock(any(), 3);
-    clock(cases::at_times(0, 0), 3);
-    clock(cases::at_times(0, 0), 64);
+    example(two(3, cases::r(), cases::at_times(0, 0), cases::d_within(1, 1)));
+    clock(cases::d_within(0, 0), cases::d_within(1, 1), 3);
+    clock(cases::at_times(0, 0), cases::d_within(1, 1), 3);
+    clock(cases::at_times(0, 0), cases::d_within(1, 1), 64);
 }
 
 // Tied columns belong to each selection, and a zone inside another is kept: list 1 is d >= 0, d = 0, d <= 0.
@@ -160,6 +179,8 @@ pub(crate) fn show() {
     network();
     io::write_all(1, b"\nFirst repeated powers\n");
     powers();
+    io::write_all(1, b"\nLists without a zone\n");
+    dry();
     io::write_all(1, b"\nPatterns that name the clock\n");
     clocks();
     io::write_all(1, b"\nTies and zones inside others\n");

@@ -1,7 +1,7 @@
 -- The searched horizon, case by case; and that a search does not look at the horizon itself.
-use Prim.Native.Nat.{ℕ, zero, suc, _-_, _≤_, _<_, min}
+use Prim.Native.Nat.{ℕ, _-_, _≤_, _<_, min}
 use native.Mathlib.Omega.{arith}
-use mathlib.Core.Path.{_≡_, refl, sym, ap}
+use mathlib.Core.Path.{_≡_, refl, sym}
 use mathlib.Core.Bool.{Bool, true, false}
 use mathlib.Core.List.{List}
 use mathlib.Core.Option.{Option, none, some}
@@ -10,7 +10,7 @@ use Rattle.ints.specs.declared.Cycle.{Cycle}
 use Rattle.search.specs.declared.End.the-variants as end
 use Rattle.model.specs.Matrix.{Matrix}
 use Rattle.model.specs.Network.{Network, Repeat}
-use Rattle.model.specs.Search.{Outcome, planWith, settled, previous, searchFrom}
+use Rattle.model.specs.Search.{Outcome, planWith, settled, searchFrom}
 use Rattle.model.specs.Answers.{cycleNumber}
 use Rattle.verdict.specs.Planning.{Planned}
 
@@ -45,7 +45,4 @@ within w h = record { n = w .n; horizon = h; times = w .times; start = w .start;
 pub same-search : (w : Network) (h capacity r k : ℕ) (zs : List Matrix) (end : Outcome)
     → searchFrom (within w h) capacity r k zs end ≡ searchFrom w capacity r k zs end
 unfolding searchFrom settled
-same-search w h capacity zero k zs end = refl
-same-search w h capacity (suc r) k zs end =
-    let zs′ = previous (w .n) (w .times) zs in
-    ap (λ (o : Outcome). elim (settled w capacity k zs′) [ some x ↦ x | none ↦ o ]) (same-search w h capacity r (suc k) zs′ end)
+same-search w h capacity r k zs end = refl

@@ -1,9 +1,11 @@
 -- Cycle after cycle; the two halves change places.
 use borrow.Author.Needs.{needs}
+use borrow.Author.Tests.{ltb-true, ltb-false}
 use native.Mathlib.Omega.{arith}
 use native.Mathlib.Numerals.{add-one}
-use Prim.Native.Nat.{_*_, _-_}
+use Prim.Native.Nat.{_*_, _-_, _≤_}
 use mathlib.Core.Path.{_≡_, refl, sym, ap, _∙_}
+use mathlib.Core.Logic.{⊎-elim}
 use lib.IntN.{pos}
 use lib.ListN.{length, length-replicate}
 use Rattle.model.specs.Sizes.{zoneSize}
@@ -11,7 +13,7 @@ use Rattle.model.specs.Search.{lists}
 use Rattle.model.specs.Answers.{answered}
 use Rattle.lists.specs.Lists.{seenSize}
 use Rattle.search.specs.Searching.{Searchable}
-use Rattle.search.proofs.Searching.{Reached, target-meets, zone-room, begun, source-in, past, stepping, ended, onward}
+use Rattle.search.proofs.Searching.{Reached, target-meets, zone-room, begun, source-in, dried, past, stepping, ended, onward}
 use Rattle.search.proofs.search.Statement.{statement}
 use Rattle.search.proofs.search.Tie as tie
 
@@ -44,56 +46,78 @@ loop-holds c =
       length-replicate seenSize (pos 0),
     )
 
+-- a zone is left
+some-zone : (c : tie.Then1 Inv-loop μ-loop) → 1 ≤ c .before .before .loop .count
+some-zone c = ltb-true 0 _ (c .if1 .taken)
+
 sub-goal : tie.Need-sub-goal Inv-loop μ-loop
-sub-goal c = let i = c .before .loop .inv in omega (arith, source-in (i .0) (i .1), i .2)
+sub-goal c = let i = c .before .before .loop .inv in omega (arith, source-in (i .0) (i .1), i .2)
 
 add-k : tie.Need-add-k Inv-loop μ-loop
-add-k c = let q = c .before .loop .inv .0 in omega (arith, q .limits .few-cycles, q .within, c .loop-test .taken)
+add-k c = let q = c .before .before .loop .inv .0 in omega (arith, q .limits .few-cycles, q .within, c .before .loop-test .taken)
 
 slice-aggregate-one-cycle : tie.Need-slice-aggregate-one-cycle Inv-loop μ-loop
-slice-aggregate-one-cycle c = sym (c .before .before .before .loop .inv .3)
+slice-aggregate-one-cycle c = sym (c .before .before .before .before .loop .inv .3)
 
 one-cycle-requires : tie.Need-one-cycle-requires Inv-loop μ-loop
 one-cycle-requires c κs =
-    let i = c .before .before .before .loop .inv in
-    rw (i .2) (stepping (i .0) (i .1) (c .before .before .loop-test .taken) (i .3))
+    let z = c .before .before in
+    let i = z .before .before .loop .inv in
+    rw (i .2) (stepping (i .0) (i .1) (some-zone z) (z .before .loop-test .taken) (i .3))
 
 same-length : tie.Need-same-length Inv-loop μ-loop
 same-length c =
     let o = c .before .before .before .before in
-    let l = o .before .before .before .before in
+    let l = o .before .before .before .before .before in
     o .one-cycle .kept .0 ∙ l .loop .inv .1 .long ∙ l .before .before .first-list .kept .0
 
 returns : tie.Need-returns Inv-loop μ-loop
 returns c =
     let o = c .before .before .before .before in
-    let l = o .before .before .before .before in
+    let z = o .before .before .before in
+    let l = z .before .before in
     let i = l .loop .inv in
     let said = rw (add-one (l .loop .k), i .2) at (o .one-cycle .ensures) in
-    ended (i .0) (i .1) (o .before .before .before .loop-test .taken) said _ (c .before .if1 .taken)
+    ended (i .0) (i .1) (some-zone z) (z .before .loop-test .taken) said _ (c .before .if2 .taken)
 
 loop-less : tie.Need-loop-less Inv-loop μ-loop
-loop-less c = let i = c .before .before .before .before .before .before .loop-test .taken in omega arith
+loop-less c = let i = c .before .before .before .before .before .before .before .loop-test .taken in omega arith
 
 loop-again : tie.Need-loop-again Inv-loop μ-loop
 loop-again c =
     let o = c .before .before .before in
-    let l = o .before .before .before .before in
+    let z = o .before .before .before in
+    let l = z .before .before in
     let i = l .loop .inv in
     let said = rw (add-one (l .loop .k), i .2) at (o .one-cycle .ensures) in
-    let r = onward (i .0) (i .1) (o .before .before .before .loop-test .taken) said (c .if1 .left) (o .one-cycle .kept .0) in
+    let r = onward (i .0) (i .1) (some-zone z) (z .before .loop-test .taken) said (c .if2 .left) (o .one-cycle .kept .0) in
     (i .0, rw (add-one (l .loop .k), i .2) r, i .2, o .one-cycle .kept .1 .1 .1 .1 .1 .1 .1 .0 ∙ i .3)
+
+plain-requires : tie.Need-plain-requires Inv-loop μ-loop
+plain-requires c κs = search needs
+
+same-length-2 : tie.Need-same-length-2 Inv-loop μ-loop
+same-length-2 c = let l = c .before .before .before in l .loop .inv .1 .long ∙ l .before .before .first-list .kept .0
+
+returns-2 : tie.Need-returns-2 Inv-loop μ-loop
+returns-2 c =
+    let i = c .before .before .before .loop .inv in
+    c .plain .ensures ∙ ap answered (sym (dried (i .0) (i .1) (c .before .if3 .taken) _))
 
 past-requires : tie.Need-past-requires Inv-loop μ-loop
 past-requires c κs = search needs
 
-same-length-2 : tie.Need-same-length-2 Inv-loop μ-loop
-same-length-2 c = let l = c .before .before in l .loop .inv .1 .long ∙ l .before .before .first-list .kept .0
+same-length-3 : tie.Need-same-length-3 Inv-loop μ-loop
+same-length-3 c = let l = c .before .before .before in l .loop .inv .1 .long ∙ l .before .before .first-list .kept .0
 
-returns-2 : tie.Need-returns-2 Inv-loop μ-loop
-returns-2 c =
-    let l = c .before .before in
-    c .past .ensures ∙ ap answered (sym (past (l .loop .inv .0) (l .loop .k) (l .loop .inv .1) (c .before .loop-test .left) _))
+-- a zone is left, so the loop ended past the last cycle
+returns-3 : tie.Need-returns-3 Inv-loop μ-loop
+returns-3 c =
+    let l = c .before .before .before in
+    let i = l .loop .inv in
+    let zone : 1 ≤ l .loop .count = let h = c .before .if3 .left in omega arith in
+    c .past .ensures ∙ ap answered (sym (past (i .0) (l .loop .k) (i .1) zone
+    (⊎-elim (λ h. absurd (omega (arith, ltb-false 0 (l .loop .count) (h .1 .left)))) (λ h. h .left) (c .before .before .loop-test .came)) _))
 
 pub search-spec : {M : Type 1} → statement M
 search-spec =
@@ -113,6 +137,9 @@ search-spec =
     returns
     loop-less
     loop-again
-    past-requires
+    plain-requires
     same-length-2
-    returns-2)
+    returns-2
+    past-requires
+    same-length-3
+    returns-3)
