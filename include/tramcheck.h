@@ -6,12 +6,18 @@
  * 384 KiB of the stack.
  *
  * Each function returns what the verdict is and sets
- *   *fault    the fault's number, 1 to 15, where it is TRAMCHECK_REFUSED, else 0;
+ *   *fault    the fault's number, 1 to 16, where it is TRAMCHECK_REFUSED, else 0;
  *   *value    k for TRAMCHECK_REACHED, N for TRAMCHECK_CLEAR, 0 for TRAMCHECK_NEVER, what the fault returns for TRAMCHECK_REFUSED:
  *             its place, the cycle of 11 (table full) and 12 (bound too large), the departure of 13, the bytes needed of 14, or 0;
  *             for TRAMCHECK_DONE the number of bytes written or read, 0 for a change committed;
- *   the seven times  a start that reaches the target, the latest of its zone: departures 1 to n in turn, each the latest possible given those
- *             before it, the earliest if there is no latest, 0 if there is neither; 0 beyond n and for every other verdict.
+ *   *parts    D, the parts of a second in which the start is handed back: 1 if no bound of the two patterns is strict, else n + 1; 0 for every verdict
+ *             other than TRAMCHECK_REACHED;
+ *   the seven times  a start that reaches the target, in Dths of a second, the latest of its zone: departures 1 to n in turn, each the latest possible
+ *             given those before it, the earliest if there is no latest, 0 if there is neither, where less than b seconds is at most b * D - 1 parts;
+ *             0 beyond n and for every other verdict.
+ *
+ * A start need not be in whole seconds: a verdict speaks of all starts in Dths of a second, for every whole D from 1 up. Where one of them reaches the
+ * target at a cycle, one in (n + 1)ths does, and if no bound is strict, one in whole seconds.
  */
 #ifndef TRAMCHECK_H
 #define TRAMCHECK_H
@@ -36,7 +42,8 @@ enum {
 
 /* The entries of an unpacked case. For n departures, entry e of the table (row by row, n * n of them) is at e, entry e of the start pattern (the
  * pairs i, j from 0 to n, i not j, by i, then by j, n * (n + 1) of them) at TRAMCHECK_START + e, of the target pattern at TRAMCHECK_TARGET + e.
- * An entry counts where its number in present is not 0; all others are ignored. */
+ * An entry counts where its number in present is not 0; all others are ignored. A bound b that counts says that x(i) - x(j) is less than b where its
+ * number in strict is not 0, and at most b where that is 0; the numbers in strict of times and of entries that do not count are ignored. */
 #define TRAMCHECK_ENTRIES 161
 #define TRAMCHECK_START 49
 #define TRAMCHECK_TARGET 105
@@ -45,45 +52,55 @@ enum {
 #define TRAMCHECK_WORKSPACE(z) ((size_t)2 * (z) * 64)
 
 /* The verdict on a packed case, with a table of capacity zones, 1 to 4,096. The workspace is left as it was by faults 1 to 10, and all zero
- * otherwise, whatever its length. Places are bit numbers. */
+ * otherwise, whatever its length. Places are bit numbers. A packed case has no strict bounds, so that a start is in whole seconds. */
 uint32_t tramcheck_verdict(const uint8_t *bytes, size_t length, size_t capacity, int32_t *work, size_t work_length, size_t *fault,
-                           size_t *value, int64_t start[TRAMCHECK_DEPARTURES]);
+                           size_t *value, size_t *parts, int64_t start[TRAMCHECK_DEPARTURES]);
 
 /* The same on an unpacked case. Places are entry numbers: of the table, or of the start pattern followed by the target pattern. */
 uint32_t tramcheck_verdict_unpacked(size_t n, size_t horizon, const uint8_t present[TRAMCHECK_ENTRIES],
-                                    const int64_t values[TRAMCHECK_ENTRIES], size_t capacity, int32_t *work, size_t work_length,
-                                    size_t *fault, size_t *value, int64_t start[TRAMCHECK_DEPARTURES]);
+                                    const uint8_t strict[TRAMCHECK_ENTRIES], const int64_t values[TRAMCHECK_ENTRIES], size_t capacity,
+                                    int32_t *work, size_t work_length, size_t *fault, size_t *value, size_t *parts,
+                                    int64_t start[TRAMCHECK_DEPARTURES]);
 
 /* The verdict on an unpacked case with the time in one row and column, both counted from 1, replaced, or blanked where has is 0. Faults in this order: the
  * case's own, 2 to 6, in the entry that would be replaced too; 15 for a row or column outside 1 to n; of the changed time 4 or 5; 9; 10. The arrays are only
  * read; the workspace is left as it was by all of these, and all zero otherwise. */
-uint32_t tramcheck_preview(size_t n, size_t horizon, const uint8_t present[TRAMCHECK_ENTRIES], const int64_t values[TRAMCHECK_ENTRIES],
-                           size_t row, size_t column, uint8_t has, int64_t time, size_t capacity, int32_t *work, size_t work_length,
-                           size_t *fault, size_t *value, int64_t start[TRAMCHECK_DEPARTURES]);
+uint32_t tramcheck_preview(size_t n, size_t horizon, const uint8_t present[TRAMCHECK_ENTRIES], const uint8_t strict[TRAMCHECK_ENTRIES],
+                           const int64_t values[TRAMCHECK_ENTRIES], size_t row, size_t column, uint8_t has, int64_t time, size_t capacity,
+                           int32_t *work, size_t work_length, size_t *fault, size_t *value, size_t *parts,
+                           int64_t start[TRAMCHECK_DEPARTURES]);
 
 /* Changes that time where it stands, at (row - 1) * n + (column - 1): present is set to 1, or to 0 where has is 0, and values to time; every other number
- * of both arrays stays as it was. Returns TRAMCHECK_DONE, with 0 in *value, or TRAMCHECK_REFUSED for the faults that a preview judges before 9; a refusal
- * leaves both arrays as they were. */
-uint32_t tramcheck_commit(size_t n, size_t horizon, uint8_t present[TRAMCHECK_ENTRIES], int64_t values[TRAMCHECK_ENTRIES], size_t row,
-                          size_t column, uint8_t has, int64_t time, size_t *fault, size_t *value);
+ * of both arrays stays as it was, and strict is only read. Returns TRAMCHECK_DONE, with 0 in *value, or TRAMCHECK_REFUSED for the faults that a preview
+ * judges before 9; a refusal leaves both arrays as they were. */
+uint32_t tramcheck_commit(size_t n, size_t horizon, uint8_t present[TRAMCHECK_ENTRIES], const uint8_t strict[TRAMCHECK_ENTRIES],
+                          int64_t values[TRAMCHECK_ENTRIES], size_t row, size_t column, uint8_t has, int64_t time, size_t *fault,
+                          size_t *value);
 
-/* A run: the times of a cycle from 0 to 64, from start times on. Returns TRAMCHECK_REACHED, with the cycle in *value and its times in times, or
- * TRAMCHECK_REFUSED. Patterns are ignored. */
+/* A run: the times of a cycle from 0 to 64, from start times on, all in whole seconds. Returns TRAMCHECK_REACHED, with the cycle in *value and its times
+ * in times, or TRAMCHECK_REFUSED. Patterns are ignored. */
 uint32_t tramcheck_run(size_t n, const uint8_t present[TRAMCHECK_ENTRIES], const int64_t values[TRAMCHECK_ENTRIES],
                        const int64_t start[TRAMCHECK_DEPARTURES], size_t cycle, size_t *fault, size_t *value,
                        int64_t times[TRAMCHECK_DEPARTURES]);
 
-/* Writes an unpacked case in packed form to the front of out; the bytes behind stay as they were. Returns TRAMCHECK_DONE, with the number of bytes,
- * at most TRAMCHECK_BYTES, in *value, or TRAMCHECK_REFUSED for faults 2 to 6 and then 14, an out that is too short; a refusal leaves all of out as it
- * was. With an out_length of 0, fault 14 tells the bytes needed. */
-#define TRAMCHECK_BYTES 426
-uint32_t tramcheck_write(size_t n, size_t horizon, const uint8_t present[TRAMCHECK_ENTRIES], const int64_t values[TRAMCHECK_ENTRIES],
-                         uint8_t *out, size_t out_length, size_t *fault, size_t *value);
+/* The same with start times and times of the cycle in Dths of a second, and D in *parts: 1, or n + 1 if a bound of the case's two patterns is strict, as
+ * for the start of a verdict; 0 on a refusal. It judges what a run judges, and asks of the patterns only whether a bound is strict. */
+uint32_t tramcheck_run_parts(size_t n, const uint8_t present[TRAMCHECK_ENTRIES], const uint8_t strict[TRAMCHECK_ENTRIES],
+                             const int64_t values[TRAMCHECK_ENTRIES], const int64_t start[TRAMCHECK_DEPARTURES], size_t cycle,
+                             size_t *fault, size_t *value, size_t *parts, int64_t times[TRAMCHECK_DEPARTURES]);
 
-/* Reads a packed case and hands it back unpacked: 1 in present where an entry is there, else 0, and 0 in values where there is none. Returns
- * TRAMCHECK_DONE, with the number of bytes in *value, or TRAMCHECK_REFUSED, and then n, the horizon and every entry are 0. */
+/* Writes an unpacked case in packed form to the front of out; the bytes behind stay as they were. Returns TRAMCHECK_DONE, with the number of bytes,
+ * at most TRAMCHECK_BYTES, in *value, or TRAMCHECK_REFUSED for faults 2 to 6, for 16, a strict bound, which has no place in a packed case, and then for
+ * 14, an out that is too short; a refusal leaves all of out as it was. Bounds are judged in order, each for 6 and then for 16, and the place of 16 is
+ * that of 6. With an out_length of 0, fault 14 tells the bytes needed. */
+#define TRAMCHECK_BYTES 426
+uint32_t tramcheck_write(size_t n, size_t horizon, const uint8_t present[TRAMCHECK_ENTRIES], const uint8_t strict[TRAMCHECK_ENTRIES],
+                         const int64_t values[TRAMCHECK_ENTRIES], uint8_t *out, size_t out_length, size_t *fault, size_t *value);
+
+/* Reads a packed case and hands it back unpacked: 1 in present where an entry is there, else 0, and 0 in values where there is none; 0 all over strict.
+ * Returns TRAMCHECK_DONE, with the number of bytes in *value, or TRAMCHECK_REFUSED, and then n, the horizon and every entry are 0. */
 uint32_t tramcheck_read(const uint8_t *bytes, size_t length, size_t *n, size_t *horizon, uint8_t present[TRAMCHECK_ENTRIES],
-                        int64_t values[TRAMCHECK_ENTRIES], size_t *fault, size_t *value);
+                        uint8_t strict[TRAMCHECK_ENTRIES], int64_t values[TRAMCHECK_ENTRIES], size_t *fault, size_t *value);
 
 #ifdef __cplusplus
 }

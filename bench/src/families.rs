@@ -3,7 +3,7 @@
 use crate::rows;
 use crate::CAPACITY;
 use evidence::archive::Verdict;
-use evidence::case::{pair, Case, Pattern, Times};
+use evidence::case::{most, pair, Case, Pattern, Times};
 use evidence::enumeration::image;
 use evidence::random::Random;
 
@@ -23,8 +23,8 @@ const LIMIT: u64 = 3_000_000;
 
 /// Bounds low <= x(i) - x(j) <= high.
 fn window(pattern: &mut Pattern, n: usize, (i, j): (usize, usize), low: i64, high: i64) {
-    pattern[pair(n, i, j)] = Some(high);
-    pattern[pair(n, j, i)] = Some(-low);
+    pattern[pair(n, i, j)] = Some(most(high));
+    pattern[pair(n, j, i)] = Some(most(-low));
 }
 
 /// Bounds each difference to `slack` seconds around that of given times. With
@@ -132,8 +132,8 @@ fn document_family(n: usize) -> Family {
     while cases.len() < CASES {
         let mut case = table(&mut random, n, 3, (1, 20));
         for i in 1..5 {
-            case.start[pair(n, i + 1, i)] = Some(0);
-            case.target[pair(n, i, i + 1)] = Some(0);
+            case.start[pair(n, i + 1, i)] = Some(most(0));
+            case.target[pair(n, i, i + 1)] = Some(most(0));
         }
         if connected(&case) {
             cases.push(case);

@@ -6,7 +6,7 @@ use crate::sets::Sets;
 use crate::zone::{Empty, Zone};
 use evidence::archive::{Answer, Fault, Verdict};
 use evidence::case::{pair, Case, Pattern};
-use evidence::selections::only_differences;
+use evidence::selections::{only_differences, without_start};
 
 /// Calls a function that is generic in M for a number of departures.
 #[macro_export]
@@ -66,12 +66,14 @@ pub trait Lister<const M: usize> {
     fn before(&mut self, table: &Table<M>, zone: &Zone<M>, kept: &mut Kept<M>) -> Result<(), Stop>;
 }
 
-/// The bounds that a pattern states.
+/// The bounds that a pattern states, none of them strict: the plain versions have
+/// no marks.
 fn stated(n: usize, pattern: &Pattern) -> Vec<(usize, usize, i32)> {
     let pairs = (0..=n).flat_map(|i| (0..=n).map(move |j| (i, j)));
     let stated = pairs.filter(|(i, j)| i != j).filter_map(|(i, j)| {
         let bound = pattern[pair(n, i, j)]?;
-        Some((i, j, bound as i32))
+        assert!(!bound.strict, "a strict bound on {i}, {j}");
+        Some((i, j, bound.value as i32))
     });
     stated.collect()
 }
@@ -86,12 +88,6 @@ fn searched<const M: usize>(case: &Case, table: &Table<M>) -> (usize, Verdict) {
         }
     }
     (horizon, Verdict::Clear { horizon })
-}
-
-/// An answer without a start.
-fn without_start(verdict: Verdict) -> Answer {
-    let start = [0; 7];
-    Answer { verdict, start }
 }
 
 fn refused(number: usize, returned: usize) -> Answer {
@@ -113,8 +109,11 @@ fn decided<const M: usize>(
         Some(common.pick().expect("a set that is not empty"))
     };
     let start = list.iter().find_map(picked)?;
-    let verdict = Verdict::Reached { cycle: k };
-    Some(Answer { verdict, start })
+    Some(Answer {
+        verdict: Verdict::Reached { cycle: k },
+        parts: 1,
+        start,
+    })
 }
 
 /// The whole search on a case within the limits, and how many comparisons of

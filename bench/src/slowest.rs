@@ -6,7 +6,7 @@ use crate::measure::measure;
 use crate::rows::{self, Cost};
 use crate::table::words;
 use crate::{hex, of_hex, CAPACITY};
-use evidence::case::{pair, Case, Pattern};
+use evidence::case::{most, pair, Case, Pattern};
 use evidence::random::Random;
 
 const N: usize = 7;
@@ -23,16 +23,16 @@ fn weight(cost: Cost) -> u64 {
 
 /// Both ways, so that the difference is a number.
 fn fix(pattern: &mut Pattern, i: usize, j: usize, bound: i64) {
-    pattern[pair(N, i, j)] = Some(bound);
-    pattern[pair(N, j, i)] = Some(-bound);
+    pattern[pair(N, i, j)] = Some(most(bound));
+    pattern[pair(N, j, i)] = Some(most(-bound));
 }
 
 /// A case whose start nobody can meet but names the clock, so that the search
 /// goes on to the horizon.
 fn without_start() -> Case {
     let mut case = Case::empty(N, CYCLES);
-    case.start[pair(N, 1, 0)] = Some(0);
-    case.start[pair(N, 0, 1)] = Some(-1);
+    case.start[pair(N, 1, 0)] = Some(most(0));
+    case.start[pair(N, 0, 1)] = Some(most(-1));
     case
 }
 
@@ -72,9 +72,9 @@ fn led(random: &mut Random) -> Case {
         .into_iter()
         .enumerate()
     {
-        case.target[pair(N, i + 1, 7)] = Some(ahead);
+        case.target[pair(N, i + 1, 7)] = Some(most(ahead));
     }
-    case.target[pair(N, 7, 0)] = Some(1_000_000);
+    case.target[pair(N, 7, 0)] = Some(most(1_000_000));
     case
 }
 
@@ -100,11 +100,12 @@ fn change_target(random: &mut Random, case: &mut Case) {
     let (i, j) = (random.below(N + 1), random.below(N));
     let j = if j < i { j } else { j + 1 };
     let place = pair(N, i, j);
-    let bound = case.target[place].unwrap_or(0) + random.between(-2, 2);
+    let about = case.target[place].map_or(0, |bound| bound.value);
+    let bound = (about + random.between(-2, 2)).clamp(-1_000_000, 1_000_000);
     match random.below(4) {
         0 => case.target[place] = None,
-        1 => fix(&mut case.target, i, j, bound.clamp(-1_000_000, 1_000_000)),
-        _ => case.target[place] = Some(bound.clamp(-1_000_000, 1_000_000)),
+        1 => fix(&mut case.target, i, j, bound),
+        _ => case.target[place] = Some(most(bound)),
     }
 }
 

@@ -37,13 +37,13 @@ fn compared(sign: &str, one: &str, other: &str, value: i64) -> String {
     format!("({sign} (- {one} {other}) {})", number(value))
 }
 
-/// A pattern over the variables of a cycle.
+/// A pattern without strict bounds over the variables of a cycle.
 fn pattern(n: usize, cycle: usize, pattern: &Pattern) -> Vec<String> {
     let pairs = (0..=n).flat_map(|i| (0..=n).map(move |j| (i, j)));
     let stated = pairs.filter(|(i, j)| i != j).filter_map(|(i, j)| {
         let bound = pattern[pair(n, i, j)]?;
         let (one, other) = (variable(cycle, i), variable(cycle, j));
-        Some(compared("<=", &one, &other, bound))
+        Some(compared("<=", &one, &other, bound.value))
     });
     stated.collect()
 }

@@ -3,7 +3,7 @@
 
 use crate::case::{Case, Entries, Times, ENTRIES};
 
-/// A fault's number, 1 to 15, and what is returned with it.
+/// A fault's number, 1 to 16, and what is returned with it.
 #[derive(Clone, Copy, Debug, PartialEq, Eq)]
 pub struct Fault {
     pub number: usize,
@@ -19,10 +19,12 @@ pub enum Verdict {
     Never,
 }
 
-/// A verdict and the start handed back, which is 0 unless reached.
+/// A verdict and the start handed back, in parts of a second: how many make a
+/// second, and the times. All are 0 unless reached.
 #[derive(Clone, Copy, Debug, PartialEq, Eq)]
 pub struct Answer {
     pub verdict: Verdict,
+    pub parts: usize,
     pub start: Times,
 }
 
@@ -31,6 +33,13 @@ pub struct Answer {
 pub struct Run {
     pub judged: Result<(), Fault>,
     pub times: Times,
+}
+
+/// A run in parts of a second, and how many make a second, 0 if refused.
+#[derive(Clone, Copy, Debug, PartialEq, Eq)]
+pub struct RunInParts {
+    pub run: Run,
+    pub parts: usize,
 }
 
 /// A packed case that was read: the bytes read or the fault, and the case, which
@@ -70,18 +79,21 @@ extern "C" {
         work_length: usize,
         fault: *mut usize,
         value: *mut usize,
+        parts: *mut usize,
         start: *mut i64,
     ) -> u32;
     fn tramcheck_verdict_unpacked(
         n: usize,
         horizon: usize,
         present: *const u8,
+        strict: *const u8,
         values: *const i64,
         capacity: usize,
         work: *mut i32,
         work_length: usize,
         fault: *mut usize,
         value: *mut usize,
+        parts: *mut usize,
         start: *mut i64,
     ) -> u32;
     fn tramcheck_run(
@@ -94,10 +106,23 @@ extern "C" {
         value: *mut usize,
         times: *mut i64,
     ) -> u32;
+    fn tramcheck_run_parts(
+        n: usize,
+        present: *const u8,
+        strict: *const u8,
+        values: *const i64,
+        start: *const i64,
+        cycle: usize,
+        fault: *mut usize,
+        value: *mut usize,
+        parts: *mut usize,
+        times: *mut i64,
+    ) -> u32;
     fn tramcheck_write(
         n: usize,
         horizon: usize,
         present: *const u8,
+        strict: *const u8,
         values: *const i64,
         out: *mut u8,
         out_length: usize,
@@ -110,6 +135,7 @@ extern "C" {
         n: *mut usize,
         horizon: *mut usize,
         present: *mut u8,
+        strict: *mut u8,
         values: *mut i64,
         fault: *mut usize,
         value: *mut usize,
@@ -118,6 +144,7 @@ extern "C" {
         n: usize,
         horizon: usize,
         present: *const u8,
+        strict: *const u8,
         values: *const i64,
         row: usize,
         column: usize,
@@ -128,12 +155,14 @@ extern "C" {
         work_length: usize,
         fault: *mut usize,
         value: *mut usize,
+        parts: *mut usize,
         start: *mut i64,
     ) -> u32;
     fn tramcheck_commit(
         n: usize,
         horizon: usize,
         present: *mut u8,
+        strict: *const u8,
         values: *mut i64,
         row: usize,
         column: usize,
@@ -144,11 +173,12 @@ extern "C" {
     ) -> u32;
 }
 
-/// Where the archive writes its results. Every call writes all of them; the
-/// first contents are numbers that no call may leave behind.
+/// Where the archive writes its results. Every call writes all that it is given
+/// of them; the first contents are numbers that no call may leave behind.
 struct Results {
     fault: usize,
     value: usize,
+    parts: usize,
     times: Times,
 }
 
@@ -157,6 +187,7 @@ impl Results {
         Results {
             fault: usize::MAX,
             value: usize::MAX,
+            parts: usize::MAX,
             times: [i64::MIN; 7],
         }
     }
@@ -170,8 +201,11 @@ impl Results {
             (3, 0, 0) => Verdict::Never,
             (kind, fault, value) => return Err(Unknown { kind, fault, value }),
         };
-        let start = self.times;
-        Ok(Answer { verdict, start })
+        Ok(Answer {
+            verdict,
+            parts: self.parts,
+            start: self.times,
+        })
     }
 
     /// The same for a run, whose cycle is the value where it is accepted.
@@ -188,7 +222,7 @@ impl Results {
     /// The number of bytes written or read, or the fault.
     fn bytes(&self, kind: u32) -> Result<Result<usize, Fault>, Unknown> {
         match (kind, self.fault, self.value) {
-            (0, number @ (1..=8 | 14), returned) => Ok(Err(Fault { number, returned })),
+            (0, number @ (1..=8 | 14 | 16), returned) => Ok(Err(Fault { number, returned })),
             (4, 0, count) => Ok(Ok(count)),
             (kind, fault, value) => Err(Unknown { kind, fault, value }),
         }
@@ -219,6 +253,7 @@ pub fn verdict(bytes: &[u8], capacity: usize, work: &mut [i32]) -> Result<Answer
             work.len(),
             &mut results.fault,
             &mut results.value,
+            &mut results.parts,
             results.times.as_mut_ptr(),
         )
     };
@@ -239,25 +274,27 @@ pub fn verdict_entries(
     work: &mut [i32],
 ) -> Result<Answer, Unknown> {
     let mut results = Results::new();
-    // The pointers are good as in `verdict`; both arrays have 161 places.
+    // The pointers are good as in `verdict`; each array has 161 places.
     let kind = unsafe {
         tramcheck_verdict_unpacked(
             n,
             horizon,
             entries.present.as_ptr(),
+            entries.strict.as_ptr(),
             entries.values.as_ptr(),
             capacity,
             work.as_mut_ptr(),
             work.len(),
             &mut results.fault,
             &mut results.value,
+            &mut results.parts,
             results.times.as_mut_ptr(),
         )
     };
     results.answer(kind)
 }
 
-/// The times of cycle `cycle` from the start times `start`.
+/// The times of cycle `cycle` from the start times `start`, in whole seconds.
 pub fn run(case: &Case, start: &Times, cycle: usize) -> Result<Run, Unknown> {
     run_entries(case.n, &case.entries(), start, cycle)
 }
@@ -286,8 +323,43 @@ pub fn run_entries(
     results.run(kind, cycle)
 }
 
+/// The same with all times in parts of a second: as many to a second as those
+/// of a start that is handed back for the case.
+pub fn run_parts(case: &Case, start: &Times, cycle: usize) -> Result<RunInParts, Unknown> {
+    run_parts_entries(case.n, &case.entries(), start, cycle)
+}
+
+/// The same for a case in the layout that the archive reads.
+pub fn run_parts_entries(
+    n: usize,
+    entries: &Entries,
+    start: &Times,
+    cycle: usize,
+) -> Result<RunInParts, Unknown> {
+    let mut results = Results::new();
+    // The pointers are good as in `verdict`; both lists of times have 7.
+    let kind = unsafe {
+        tramcheck_run_parts(
+            n,
+            entries.present.as_ptr(),
+            entries.strict.as_ptr(),
+            entries.values.as_ptr(),
+            start.as_ptr(),
+            cycle,
+            &mut results.fault,
+            &mut results.value,
+            &mut results.parts,
+            results.times.as_mut_ptr(),
+        )
+    };
+    let run = results.run(kind, cycle)?;
+    let parts = results.parts;
+    Ok(RunInParts { run, parts })
+}
+
 /// Writes a case in packed form to the front of `out`: how many bytes, or the
-/// fault. With an `out` of length 0 fault 14 tells how many are needed.
+/// fault, 16 for a strict bound. With an `out` of length 0 fault 14 tells how
+/// many are needed.
 pub fn write(case: &Case, out: &mut [u8]) -> Result<Result<usize, Fault>, Unknown> {
     write_entries(case.n, case.horizon, &case.entries(), out)
 }
@@ -300,12 +372,13 @@ pub fn write_entries(
     out: &mut [u8],
 ) -> Result<Result<usize, Fault>, Unknown> {
     let mut results = Results::new();
-    // The pointers are good as in `verdict`; both arrays have 161 places.
+    // The pointers are good as in `verdict`; each array has 161 places.
     let kind = unsafe {
         tramcheck_write(
             n,
             horizon,
             entries.present.as_ptr(),
+            entries.strict.as_ptr(),
             entries.values.as_ptr(),
             out.as_mut_ptr(),
             out.len(),
@@ -322,9 +395,10 @@ pub fn read(bytes: &[u8]) -> Result<Reading, Unknown> {
     let (mut n, mut horizon) = (usize::MAX, usize::MAX);
     let mut entries = Entries {
         present: [u8::MAX; ENTRIES],
+        strict: [u8::MAX; ENTRIES],
         values: [i64::MIN; ENTRIES],
     };
-    // The pointers are good as in `verdict`; both arrays have 161 places.
+    // The pointers are good as in `verdict`; each array has 161 places.
     let kind = unsafe {
         tramcheck_read(
             bytes.as_ptr(),
@@ -332,6 +406,7 @@ pub fn read(bytes: &[u8]) -> Result<Reading, Unknown> {
             &mut n,
             &mut horizon,
             entries.present.as_mut_ptr(),
+            entries.strict.as_mut_ptr(),
             entries.values.as_mut_ptr(),
             &mut results.fault,
             &mut results.value,
@@ -356,12 +431,13 @@ pub fn preview(
     work: &mut [i32],
 ) -> Result<Answer, Unknown> {
     let mut results = Results::new();
-    // The pointers are good as in `verdict`; both arrays have 161 places.
+    // The pointers are good as in `verdict`; each array has 161 places.
     let kind = unsafe {
         tramcheck_preview(
             n,
             horizon,
             entries.present.as_ptr(),
+            entries.strict.as_ptr(),
             entries.values.as_ptr(),
             change.row,
             change.column,
@@ -372,6 +448,7 @@ pub fn preview(
             work.len(),
             &mut results.fault,
             &mut results.value,
+            &mut results.parts,
             results.times.as_mut_ptr(),
         )
     };
@@ -387,12 +464,13 @@ pub fn commit(
     change: &Change,
 ) -> Result<Result<(), Fault>, Unknown> {
     let mut results = Results::new();
-    // The pointers are good as in `verdict`; both arrays have 161 places.
+    // The pointers are good as in `verdict`; each array has 161 places.
     let kind = unsafe {
         tramcheck_commit(
             n,
             horizon,
             entries.present.as_mut_ptr(),
+            entries.strict.as_ptr(),
             entries.values.as_mut_ptr(),
             change.row,
             change.column,

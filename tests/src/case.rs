@@ -4,8 +4,27 @@
 /// Times of the departures; those beyond n are 0 wherever they are handed back.
 pub type Times = [i64; 7];
 
+/// A bound on x(i) - x(j): at most the value, or less than it if strict.
+#[derive(Clone, Copy, Debug, PartialEq, Eq)]
+pub struct Bound {
+    pub value: i64,
+    pub strict: bool,
+}
+
+/// At most a value.
+pub const fn most(value: i64) -> Bound {
+    let strict = false;
+    Bound { value, strict }
+}
+
+/// Less than a value.
+pub const fn less(value: i64) -> Bound {
+    let strict = true;
+    Bound { value, strict }
+}
+
 /// A pattern's bounds: pairs i, j from 0 to n, i not j, by i, then j.
-pub type Pattern = [Option<i64>; 56];
+pub type Pattern = [Option<Bound>; 56];
 
 /// Entries that the archive reads: 49 times and twice 56 bounds.
 pub const ENTRIES: usize = 161;
@@ -21,10 +40,12 @@ pub struct Case {
     pub target: Pattern,
 }
 
-/// A case's entries as the archive reads them.
+/// A case's entries as the archive reads them. A number other than 0 in
+/// `strict` marks a strict bound; it is ignored for times and absent bounds.
 #[derive(Clone, Debug, PartialEq, Eq)]
 pub struct Entries {
     pub present: [u8; ENTRIES],
+    pub strict: [u8; ENTRIES],
     pub values: [i64; ENTRIES],
 }
 
@@ -51,34 +72,45 @@ impl Case {
         self.times[i * self.n + j]
     }
 
+    /// The bounds that count, those of the start before those of the target. n
+    /// must be below 8.
+    pub fn bounds(&self) -> impl Iterator<Item = &Option<Bound>> {
+        let count = self.n * (self.n + 1);
+        self.start[..count].iter().chain(&self.target[..count])
+    }
+
     /// The entries as the archive reads them.
     pub fn entries(&self) -> Entries {
         let mut entries = Entries {
             present: [0; ENTRIES],
+            strict: [0; ENTRIES],
             values: [0; ENTRIES],
         };
-        let all = self.times.iter().chain(&self.start).chain(&self.target);
-        for (place, entry) in all.enumerate() {
-            if let Some(value) = entry {
+        let times = self.times.iter().map(|time| time.map(most));
+        let bounds = self.start.iter().chain(&self.target).copied();
+        for (place, entry) in times.chain(bounds).enumerate() {
+            if let Some(Bound { value, strict }) = entry {
                 entries.present[place] = 1;
-                entries.values[place] = *value;
+                entries.strict[place] = u8::from(strict);
+                entries.values[place] = value;
             }
         }
         entries
     }
 
-    /// The packed case. n must be below 8 and N from 1 to 64; a value too wide
-    /// for its field loses its upper bits.
+    /// The packed case. n must be below 8, N from 1 to 64, and no bound that
+    /// counts may be strict; a value too wide for its field loses its upper bits.
     pub fn pack(&self) -> Vec<u8> {
         let mut writer = Writer::default();
         writer.number(self.n as i64, 3);
         writer.number(self.horizon as i64 - 1, 6);
-        let bounds = self.n * (self.n + 1);
         for &entry in &self.times[..self.n * self.n] {
             writer.entry(entry, 18);
         }
-        for &entry in self.start[..bounds].iter().chain(&self.target[..bounds]) {
-            writer.entry(entry, 21);
+        for entry in self.bounds() {
+            let strict = entry.is_some_and(|bound| bound.strict);
+            assert!(!strict, "a packed case has no place for a mark: {self:?}");
+            writer.entry(entry.map(|bound| bound.value), 21);
         }
         writer.bytes()
     }

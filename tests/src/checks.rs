@@ -5,14 +5,11 @@ use crate::archive::{Answer, Fault, Verdict};
 use crate::case::{Case, Entries, ENTRIES};
 use crate::faults;
 use crate::random::Random;
-use crate::selections::search;
+use crate::selections::{search, without_start};
 
 /// The answer that refuses with a fault.
 pub fn refused(fault: Fault) -> Answer {
-    Answer {
-        verdict: Verdict::Refused(fault),
-        start: [0; 7],
-    }
+    without_start(Verdict::Refused(fault))
 }
 
 /// The number of the fault, 0 without one.
@@ -109,8 +106,10 @@ impl Lent {
 }
 
 /// The entries of a case with every number that must be ignored made random:
-/// values marked absent and all entries beyond n. Presence is any number but 0.
+/// values marked absent, all entries beyond n, and the marks of all these and of
+/// the times. Presence and a mark that counts are any number but 0.
 pub fn noisy(random: &mut Random, case: &Case) -> Entries {
+    let mut marks = random.apart();
     let mut entries = case.entries();
     let (times, bounds) = match case.n {
         1..=7 => (case.n * case.n, case.n * (case.n + 1)),
@@ -122,7 +121,13 @@ pub fn noisy(random: &mut Random, case: &Case) -> Entries {
             49..=104 => place - 49 < bounds,
             _ => place - 105 < bounds,
         };
-        if used && entries.present[place] != 0 {
+        let present = used && entries.present[place] != 0;
+        entries.strict[place] = match (present && place >= 49, entries.strict[place]) {
+            (false, _) => marks.between(0, 255) as u8,
+            (true, 0) => 0,
+            (true, _) => marks.between(1, 255) as u8,
+        };
+        if present {
             entries.present[place] = random.between(1, 255) as u8;
             continue;
         }

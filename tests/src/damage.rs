@@ -1,9 +1,9 @@
 //! Random damage to packed cases, unpacked cases, runs and changes.
 
 use crate::archive::Change;
-use crate::case::{Case, Times};
+use crate::case::{Bound, Case, Times};
 use crate::faults;
-use crate::random::{bearable, trial, Random, Trial};
+use crate::random::{bearable, trial, Draw, Random, Trial};
 
 /// A call on packed bytes.
 pub struct PackedCall {
@@ -46,6 +46,13 @@ fn place(random: &mut Random, n: usize) -> usize {
     random.below(n * n)
 }
 
+/// Gives a number to one of the bounds, which keeps its mark.
+fn put(random: &mut Random, bounds: &mut [Option<Bound>], value: i64) {
+    let bound = &mut bounds[random.below(bounds.len())];
+    let strict = bound.is_some_and(|bound| bound.strict);
+    *bound = Some(Bound { value, strict });
+}
+
 /// Puts a time, a bound or an empty row into a case with n from 1 to 7.
 fn damage_values(random: &mut Random, case: &mut Case) {
     let n = case.n;
@@ -55,8 +62,14 @@ fn damage_values(random: &mut Random, case: &mut Case) {
             let row = random.below(n);
             case.times[row * n..row * n + n].fill(None);
         }
-        2 => case.start[random.below(n * (n + 1))] = Some(at_limit(random, 1_000_000, 21)),
-        _ => case.target[random.below(n * (n + 1))] = Some(at_limit(random, 1_000_000, 21)),
+        2 => {
+            let value = at_limit(random, 1_000_000, 21);
+            put(random, &mut case.start[..n * (n + 1)], value)
+        }
+        _ => {
+            let value = at_limit(random, 1_000_000, 21);
+            put(random, &mut case.target[..n * (n + 1)], value)
+        }
     }
 }
 
@@ -162,8 +175,14 @@ fn damage_case(random: &mut Random, case: &mut Case) {
         0 => case.n = random.one_of(&huge),
         1 => case.horizon = random.one_of(&[0, 64, 65, 255, 257, (1 << 32) + 1, usize::MAX]),
         2 => case.times[place(random, n)] = Some(far(random, 86_400)),
-        3 => case.start[random.below(n * (n + 1))] = Some(far(random, 1_000_000)),
-        4 => case.target[random.below(n * (n + 1))] = Some(far(random, 1_000_000)),
+        3 => {
+            let value = far(random, 1_000_000);
+            put(random, &mut case.start[..n * (n + 1)], value)
+        }
+        4 => {
+            let value = far(random, 1_000_000);
+            put(random, &mut case.target[..n * (n + 1)], value)
+        }
         _ => {
             case.n = n;
             damage_values(random, case)
@@ -172,9 +191,9 @@ fn damage_case(random: &mut Random, case: &mut Case) {
 }
 
 /// An unpacked call with up to two kinds of damage.
-pub fn unpacked(random: &mut Random) -> UnpackedCall {
+pub fn unpacked(random: &mut Random, draw: Draw) -> UnpackedCall {
     loop {
-        let mut trial = trial(random);
+        let mut trial = draw(random);
         for _ in 0..random.below(3) {
             damage_case(random, &mut trial.case);
         }
@@ -216,11 +235,11 @@ fn change(random: &mut Random, n: usize) -> Change {
 }
 
 /// A change in an unpacked call, with damage to every third call.
-pub fn changed(random: &mut Random) -> ChangeCall {
+pub fn changed(random: &mut Random, draw: Draw) -> ChangeCall {
     let call = if random.chance(1, 3) {
-        unpacked(random)
+        unpacked(random, draw)
     } else {
-        let Trial { case, capacity, .. } = trial(random);
+        let Trial { case, capacity, .. } = draw(random);
         UnpackedCall {
             case,
             capacity,
@@ -232,8 +251,8 @@ pub fn changed(random: &mut Random) -> ChangeCall {
 }
 
 /// A run, with damage to its case, its cycle or its start times.
-pub fn run(random: &mut Random) -> RunCall {
-    let mut case = trial(random).case;
+pub fn run(random: &mut Random, draw: Draw) -> RunCall {
+    let mut case = draw(random).case;
     for _ in 0..random.below(3) {
         damage_case(random, &mut case);
     }

@@ -1,7 +1,33 @@
-//! Brute search 1: whole-second starts of a box, put forward step by step.
+//! Brute search 1: the starts of a box, put forward step by step. Times are
+//! whole seconds, or whole numbers of parts of a second on a case in parts.
 
-use crate::case::{pair, Case, Pattern, Times};
+use crate::case::{pair, Bound, Case, Pattern, Times};
 use std::cmp::Reverse;
+
+/// The case with times and bounds in parts of a second.
+pub fn in_parts(case: &Case, parts: usize) -> Case {
+    let parts = parts as i64;
+    let mut scaled = Case::empty(case.n, case.horizon);
+    let times = &case.times[..case.n * case.n];
+    for (to, time) in scaled.times.iter_mut().zip(times) {
+        *to = time.map(|time| time * parts);
+    }
+    let count = case.n * (case.n + 1);
+    let places = scaled.start[..count].iter_mut();
+    for (to, bound) in places.chain(&mut scaled.target).zip(case.bounds()) {
+        *to = bound.map(|Bound { value, strict }| Bound {
+            value: value * parts,
+            strict,
+        });
+    }
+    scaled
+}
+
+/// The numbers of parts of a second in which starts are looked for: all up to
+/// n + 1, in which every set that is not empty has times, and two beyond.
+pub fn tried_parts(n: usize) -> impl Iterator<Item = usize> {
+    (1..=n + 1).chain([n + 2, 2 * (n + 1)])
+}
 
 /// The times of the next cycle.
 pub fn step(case: &Case, x: &Times) -> Times {
@@ -23,8 +49,12 @@ pub fn within(n: usize, pattern: &Pattern, x: &Times) -> bool {
     let at = |i: usize| if i == 0 { 0 } else { x[i - 1] };
     (0..=n).all(|i| {
         (0..=n).filter(|&j| j != i).all(|j| {
-            let bound = pattern[pair(n, i, j)];
-            bound.is_none_or(|b| at(i) - at(j) <= b)
+            let apart = at(i) - at(j);
+            match pattern[pair(n, i, j)] {
+                None => true,
+                Some(bound) if bound.strict => apart < bound.value,
+                Some(bound) => apart <= bound.value,
+            }
         })
     })
 }
@@ -117,13 +147,13 @@ pub enum Choice {
 const FAR: i64 = 10_000_000_000;
 
 /// Whether a start still leads into the target, in the same zone, if departure
-/// i is some seconds later and with it any of those after it, but none before.
-fn can_be_later(case: &Case, x: &Times, cycle: usize, i: usize, seconds: i64) -> bool {
+/// i is that much later and with it any of those after it, but none before.
+fn can_be_later(case: &Case, x: &Times, cycle: usize, i: usize, later: i64) -> bool {
     (0..1 << (case.n - i - 1)).any(|with: usize| {
         let mut moved = *x;
-        moved[i] += seconds;
+        moved[i] += later;
         for j in (i + 1..case.n).filter(|j| with >> (j - i - 1) & 1 == 1) {
-            moved[j] += seconds;
+            moved[j] += later;
         }
         leads(case, &moved, cycle) && word(case, &moved, cycle) == word(case, x, cycle)
     })
@@ -131,11 +161,11 @@ fn can_be_later(case: &Case, x: &Times, cycle: usize, i: usize, seconds: i64) ->
 
 /// How the time of departure i was chosen in a start that leads into the target
 /// at a cycle, or none if it is against the rule. It needs no box: in a zone a
-/// greater time is possible just if a second later is, with some of the
+/// greater time is possible just if one that is 1 later is, with some of the
 /// departures after it moved as far, and there is no greatest just if they can
 /// be moved without end. The same holds of lesser times.
 pub fn choice(case: &Case, x: &Times, cycle: usize, i: usize) -> Option<Choice> {
-    let can = |seconds| can_be_later(case, x, cycle, i, seconds);
+    let can = |later| can_be_later(case, x, cycle, i, later);
     let (choice, right) = match (can(FAR), can(-FAR)) {
         (false, _) => (Choice::Greatest, !can(1)),
         (true, false) => (Choice::Least, !can(-1)),

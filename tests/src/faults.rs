@@ -1,10 +1,15 @@
 //! The faults, in the order in which they are judged.
 
 use crate::archive::{Change, Fault};
-use crate::case::{Case, Times};
+use crate::case::{most, Bound, Case, Times};
 
 fn fault(number: usize, returned: usize) -> Fault {
     Fault { number, returned }
+}
+
+/// Whether a bound is beyond the limit; the mark makes no difference.
+fn beyond(bound: Bound) -> bool {
+    !(-1_000_000..=1_000_000).contains(&bound.value)
 }
 
 /// Reads fields from the bits of a packed case.
@@ -75,11 +80,11 @@ impl Reader<'_> {
     }
 
     /// One pattern's bounds.
-    fn pattern(&mut self, bounds: &mut [Option<i64>]) -> Result<(), Fault> {
+    fn pattern(&mut self, bounds: &mut [Option<Bound>]) -> Result<(), Fault> {
         for bound in bounds {
             let place = self.place;
-            *bound = self.entry(21)?;
-            if bound.is_some_and(|b| !(-1_000_000..=1_000_000).contains(&b)) {
+            *bound = self.entry(21)?.map(most);
+            if bound.is_some_and(beyond) {
                 return Err(fault(6, place));
             }
         }
@@ -136,20 +141,35 @@ fn of_table(case: &Case) -> Result<(), Fault> {
     Ok(())
 }
 
-/// Faults 2 to 6 of an unpacked case.
-pub fn of_case(case: &Case) -> Result<(), Fault> {
+/// Faults 2 to 5 of an unpacked case.
+fn before_bounds(case: &Case) -> Result<(), Fault> {
     if !(1..=7).contains(&case.n) {
         return Err(fault(2, 0));
     }
     if !(1..=64).contains(&case.horizon) {
         return Err(fault(3, 0));
     }
-    of_table(case)?;
-    let bounds = case.n * (case.n + 1);
-    let both = case.start[..bounds].iter().chain(&case.target[..bounds]);
-    for (place, bound) in both.enumerate() {
-        if bound.is_some_and(|b| !(-1_000_000..=1_000_000).contains(&b)) {
-            return Err(fault(6, place));
+    of_table(case)
+}
+
+/// Faults 2 to 6 of an unpacked case.
+pub fn of_case(case: &Case) -> Result<(), Fault> {
+    before_bounds(case)?;
+    match case.bounds().position(|bound| bound.is_some_and(beyond)) {
+        Some(place) => Err(fault(6, place)),
+        None => Ok(()),
+    }
+}
+
+/// Faults 2 to 6 and 16 of a case that is to be written: bound by bound 6, then
+/// 16 if it is strict.
+pub fn of_written(case: &Case) -> Result<(), Fault> {
+    before_bounds(case)?;
+    for (place, bound) in case.bounds().enumerate() {
+        match bound {
+            Some(bound) if beyond(*bound) => return Err(fault(6, place)),
+            Some(bound) if bound.strict => return Err(fault(16, place)),
+            _ => continue,
         }
     }
     Ok(())

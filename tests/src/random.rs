@@ -1,9 +1,9 @@
 //! A seeded generator of numbers, and random cases made with it.
 
 use crate::archive::Verdict;
-use crate::case::{pair, Case, Pattern, Times};
-use crate::enumeration::image;
-use crate::selections::{first_repeat, search, searched};
+use crate::case::{most, pair, Bound, Case, Pattern, Times};
+use crate::enumeration::{image, in_parts};
+use crate::selections::{first_repeat, parts_of, search, searched};
 
 /// Numbers that follow from the seed alone (splitmix64).
 pub struct Random {
@@ -13,6 +13,11 @@ pub struct Random {
 impl Random {
     pub fn new(seed: u64) -> Random {
         Random { state: seed }
+    }
+
+    /// Numbers of another kind that follow from this state, which stays.
+    pub fn apart(&self) -> Random {
+        Random::new(!self.state)
     }
 
     pub fn draw(&mut self) -> u64 {
@@ -44,12 +49,17 @@ impl Random {
     }
 }
 
-/// A random case, a capacity, and a start near which brute search 1 looks.
+/// A random case, a capacity, and a start near which brute search 1 looks, with
+/// the parts of a second that it is in.
 pub struct Trial {
     pub case: Case,
     pub capacity: usize,
     pub near: Times,
+    pub parts: usize,
 }
+
+/// Makes random cases.
+pub type Draw = fn(&mut Random) -> Trial;
 
 /// The largest sizes of times and of bounds in a case, and whether the
 /// table's times are all of that size.
@@ -167,7 +177,7 @@ fn around(random: &mut Random, n: usize, x: &Times, slack: i64, part: usize) -> 
         for j in (0..=n).filter(|&j| j != i) {
             let bound = at(i) - at(j) + random.between(0, slack);
             if random.chance(part, 6) && bound.abs() <= 1_000_000 {
-                pattern[pair(n, i, j)] = Some(bound);
+                pattern[pair(n, i, j)] = Some(most(bound));
             }
         }
     }
@@ -179,7 +189,7 @@ fn any_pattern(random: &mut Random, n: usize, scale: Scale, part: usize) -> Patt
     let mut pattern = [None; 56];
     for bound in pattern.iter_mut().take(n * (n + 1)) {
         if random.chance(part, 6) {
-            *bound = Some(random.between(-scale.bound / 2, scale.bound));
+            *bound = Some(most(random.between(-scale.bound / 2, scale.bound)));
         }
     }
     pattern
@@ -296,6 +306,22 @@ fn reached_at_once(case: &Case, capacity: usize) -> bool {
     verdict == Verdict::Reached { cycle: 1 }
 }
 
+/// A capacity for a case, unless the case says little or is too much for brute
+/// search 2.
+fn with_capacity(random: &mut Random, case: Case, near: Times, parts: usize) -> Option<Trial> {
+    let capacity = random.one_of(&[1, 2, 3, 5, 9, 17, 40, 128]);
+    if reached_at_once(&case, capacity) && random.chance(5, 6) {
+        return None;
+    }
+    let capacity = bearable(&case, capacity)?;
+    Some(Trial {
+        case,
+        capacity,
+        near,
+        parts,
+    })
+}
+
 /// A random case of `low` to `high` departures.
 fn trial_of(random: &mut Random, low: i64, high: i64, sparse: bool) -> Trial {
     loop {
@@ -308,16 +334,8 @@ fn trial_of(random: &mut Random, low: i64, high: i64, sparse: bool) -> Trial {
             table(random, &mut case, scale);
         }
         let (case, near) = with_patterns(random, case, scale);
-        let capacity = random.one_of(&[1, 2, 3, 5, 9, 17, 40, 128]);
-        if reached_at_once(&case, capacity) && random.chance(5, 6) {
-            continue;
-        }
-        if let Some(capacity) = bearable(&case, capacity) {
-            return Trial {
-                case,
-                capacity,
-                near,
-            };
+        if let Some(trial) = with_capacity(random, case, near, 1) {
+            return trial;
         }
     }
 }
@@ -337,13 +355,14 @@ fn choice_trial(random: &mut Random) -> Trial {
         case.target = around(random, n, &then, slack, part);
         for _ in 0..random.below(3) {
             let place = random.below(n * (n + 1));
-            case.start[place] = Some(random.between(-2 * scale.bound, 0));
+            case.start[place] = Some(most(random.between(-2 * scale.bound, 0)));
         }
         if let Some(capacity) = bearable(&case, 128) {
             return Trial {
                 case,
                 capacity,
                 near,
+                parts: 1,
             };
         }
     }
@@ -364,6 +383,7 @@ fn late_trial(random: &mut Random) -> Trial {
         case,
         capacity: 128,
         near,
+        parts: 1,
     }
 }
 
@@ -386,19 +406,20 @@ fn ladder_trial(random: &mut Random) -> Trial {
     let clock = order[6] + 1;
     let last = 1_000_000 / cycles * cycles;
     for (pattern, time) in [(&mut case.start, 0), (&mut case.target, last)] {
-        pattern[pair(7, clock, 0)] = Some(time);
-        pattern[pair(7, 0, clock)] = Some(-time);
+        pattern[pair(7, clock, 0)] = Some(most(time));
+        pattern[pair(7, 0, clock)] = Some(most(-time));
     }
-    case.start[pair(7, order[0] + 1, 0)] = Some(random.between(0, 9));
-    case.start[pair(7, 0, order[0] + 1)] = Some(0);
+    case.start[pair(7, order[0] + 1, 0)] = Some(most(random.between(0, 9)));
+    case.start[pair(7, 0, order[0] + 1)] = Some(most(0));
     for (behind, ahead) in [(0, 2), (1, 4), (3, 5)] {
         let bound = random.between(900_000, 1_000_000);
-        case.target[pair(7, order[behind] + 1, order[ahead] + 1)] = Some(bound);
+        case.target[pair(7, order[behind] + 1, order[ahead] + 1)] = Some(most(bound));
     }
     Trial {
         case,
         capacity: 128,
         near: [0; 7],
+        parts: 1,
     }
 }
 
@@ -413,25 +434,132 @@ pub fn trial(random: &mut Random) -> Trial {
     }
 }
 
-/// A case of n departures without a single blank in its table, over one or
-/// two cycles, and a capacity that its lists seldom exceed.
-pub fn dense_trial(random: &mut Random, n: usize) -> Trial {
-    let scale = random.one_of(&[SMALL, MIDDLE]);
+/// Makes bounds strict, one in three.
+pub fn mark(random: &mut Random, case: &mut Case) {
+    for bound in case.start.iter_mut().chain(&mut case.target).flatten() {
+        bound.strict = random.chance(1, 3);
+    }
+}
+
+/// Bounds in seconds around times in parts of a second: each pair is bounded
+/// `part` times out of 6, with up to `slack` seconds more than the times need.
+/// Every other bound that may then be strict is.
+fn around_parts(
+    random: &mut Random,
+    n: usize,
+    (x, parts): (&Times, i64),
+    slack: i64,
+    part: usize,
+) -> Pattern {
+    let mut pattern = [None; 56];
+    let at = |i: usize| if i == 0 { 0 } else { x[i - 1] };
+    for i in 0..=n {
+        for j in (0..=n).filter(|&j| j != i) {
+            let apart = at(i) - at(j);
+            let value = random.between(0, slack) - (-apart).div_euclid(parts);
+            let strict = apart < value * parts && random.chance(1, 2);
+            if random.chance(part, 6) && value.abs() <= 1_000_000 {
+                pattern[pair(n, i, j)] = Some(Bound { value, strict });
+            }
+        }
+    }
+    pattern
+}
+
+/// A case of 1 to 4 departures with a hidden start between two seconds: the
+/// target lies around what it becomes after some cycles. Often nobody meets
+/// both patterns in whole seconds.
+fn fraction_trial(random: &mut Random) -> Trial {
+    loop {
+        let scale = random.one_of(&[SMALL, SMALL, SMALL, MIDDLE, LARGE]);
+        let n = random.between(1, 4) as usize;
+        let mut case = Case::empty(n, 1);
+        table(random, &mut case, scale);
+        let parts = random.between(2, 2 * n as i64 + 2);
+        let bound = random.one_of(&[2, scale.bound]) * parts;
+        let near = times(random, n, Scale { bound, ..scale });
+        let arrival = cycles(random);
+        let then = image(&in_parts(&case, parts as usize), &near, arrival);
+        for (pattern, x) in [(&mut case.start, &near), (&mut case.target, &then)] {
+            let (slack, part) = random.one_of(&[(0, 6), (0, 6), (0, 2), (1, 1), (2, 3)]);
+            *pattern = around_parts(random, n, (x, parts), slack, part);
+            if random.chance(1, 3) {
+                *pattern = differences(n, *pattern);
+            }
+        }
+        case.horizon = sharp_horizon(random, &case, arrival);
+        if let Some(trial) = with_capacity(random, case, near, parts as usize) {
+            return trial;
+        }
+    }
+}
+
+/// A random case with a strict bound that counts.
+pub fn strict_trial(random: &mut Random) -> Trial {
+    loop {
+        let trial = if random.chance(1, 2) {
+            fraction_trial(random)
+        } else {
+            let mut trial = trial(random);
+            mark(random, &mut trial.case);
+            trial
+        };
+        if parts_of(&trial.case) > 1 {
+            return trial;
+        }
+    }
+}
+
+/// A table of n departures without a single blank, over one or two cycles.
+fn dense_table(random: &mut Random, n: usize, scale: Scale) -> Case {
     let mut case = Case::empty(n, if n < 6 { 2 } else { 1 });
     any_table(random, &mut case, scale, 6);
+    case
+}
+
+/// Moves half of the starts off, so that the search goes on: departure 1 is some
+/// seconds later than the hidden start, which has it at `first`.
+fn move_off(random: &mut Random, case: &mut Case, first: i64) {
+    if random.chance(1, 2) {
+        case.start[pair(case.n, 0, 1)] = Some(most(-first - 5));
+        case.start[pair(case.n, 1, 0)] = None;
+    }
+}
+
+/// A case without a single blank in its table, and a capacity that its lists
+/// seldom exceed.
+pub fn dense_trial(random: &mut Random, n: usize) -> Trial {
+    let scale = random.one_of(&[SMALL, MIDDLE]);
+    let mut case = dense_table(random, n, scale);
     let near = times(random, n, scale);
     let then = image(&case, &near, 1);
     case.start = around(random, n, &near, 1, 3);
     case.target = around(random, n, &then, 1, 6);
-    if random.chance(1, 2) {
-        // The start now lies off, so that the search goes on.
-        case.start[pair(n, 0, 1)] = Some(-near[0] - 5);
-        case.start[pair(n, 1, 0)] = None;
-    }
+    move_off(random, &mut case, near[0]);
     Trial {
         case,
         capacity: 128,
         near,
+        parts: 1,
+    }
+}
+
+/// Such a case with strict bounds and a hidden start in (n + 1)ths of a second.
+pub fn strict_dense_trial(random: &mut Random, n: usize) -> Trial {
+    let scale = random.one_of(&[SMALL, MIDDLE]);
+    let mut case = dense_table(random, n, scale);
+    let parts = n as i64 + 1;
+    let bound = scale.bound * parts;
+    let near = times(random, n, Scale { bound, ..scale });
+    let then = image(&in_parts(&case, n + 1), &near, 1);
+    case.start = around_parts(random, n, (&near, parts), 1, 3);
+    case.target = around_parts(random, n, (&then, parts), 1, 6);
+    move_off(random, &mut case, near[0].div_euclid(parts));
+    Trial {
+        case,
+        capacity: 128,
+        near,
+        parts: n + 1,
     }
 }
 
@@ -443,16 +571,17 @@ pub fn crowded_trial(random: &mut Random, n: usize, horizon: usize) -> Trial {
     any_table(random, &mut case, scale, 6);
     for i in 1..=n {
         if random.chance(1, 2) {
-            case.target[pair(n, i, 0)] = Some(2 * scale.time);
-            case.target[pair(n, 0, i)] = Some(2 * scale.time);
+            case.target[pair(n, i, 0)] = Some(most(2 * scale.time));
+            case.target[pair(n, 0, i)] = Some(most(2 * scale.time));
         }
     }
-    case.start[pair(n, 0, 1)] = Some(-1);
-    case.start[pair(n, 1, 0)] = Some(0);
+    case.start[pair(n, 0, 1)] = Some(most(-1));
+    case.start[pair(n, 1, 0)] = Some(most(0));
     Trial {
         case,
         capacity: 4096,
         near: [0; 7],
+        parts: 1,
     }
 }
 

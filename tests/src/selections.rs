@@ -2,29 +2,39 @@
 //! made by trying every selection on every zone.
 
 use crate::archive::{Answer, Fault, Verdict};
-use crate::case::{pair, Case, Pattern, Times};
-
-/// Stands for a bound that is not there.
-pub const NONE: i64 = i64::MAX;
+use crate::case::{most, pair, Bound, Case, Pattern, Times};
 
 /// The column selected in each row.
 pub type Selection = [usize; 7];
 
-/// For each pair i, j from 0 to n a bound on x(i) - x(j).
+/// Whether a bound allows less than another: of equal numbers the strict one.
+fn tighter(one: Bound, other: Bound) -> bool {
+    one.value < other.value || one.value == other.value && one.strict && !other.strict
+}
+
+/// What two bounds in a row allow; it is strict if one of them is.
+fn sum(one: Bound, other: Bound) -> Bound {
+    Bound {
+        value: one.value + other.value,
+        strict: one.strict || other.strict,
+    }
+}
+
+/// For each pair i, j from 0 to n a bound on x(i) - x(j), or none.
 #[derive(Clone, Copy, Debug, PartialEq, Eq)]
 pub struct Bounds {
     n: usize,
-    most: [[i64; 8]; 8],
+    bounds: [[Option<Bound>; 8]; 8],
 }
 
 impl Bounds {
     /// No bound, but that x(i) - x(i) is 0.
     pub fn free(n: usize) -> Bounds {
-        let mut most = [[NONE; 8]; 8];
-        for (i, row) in most.iter_mut().enumerate() {
-            row[i] = 0;
+        let mut all = [[None; 8]; 8];
+        for (i, row) in all.iter_mut().enumerate() {
+            row[i] = Some(most(0));
         }
-        Bounds { n, most }
+        Bounds { n, bounds: all }
     }
 
     /// The bounds that a pattern states.
@@ -41,50 +51,75 @@ impl Bounds {
     }
 
     /// One more bound on x(i) - x(j).
-    pub fn add(&mut self, i: usize, j: usize, bound: i64) {
-        self.most[i][j] = self.most[i][j].min(bound);
+    pub fn add(&mut self, i: usize, j: usize, bound: Bound) {
+        let place = &mut self.bounds[i][j];
+        if place.is_none_or(|known| tighter(bound, known)) {
+            *place = Some(bound);
+        }
     }
 
-    /// The tightest bounds (Floyd and Warshall), or none for an empty set.
+    /// The tightest bounds (Floyd and Warshall), or none for an empty set: then
+    /// the way from some i back to itself is negative, or 0 and strict.
     pub fn closed(mut self) -> Option<Bounds> {
         let size = self.n + 1;
         for via in 0..size {
             for i in 0..size {
-                let left = self.most[i][via];
-                if left == NONE {
+                let Some(left) = self.bounds[i][via] else {
                     continue;
-                }
+                };
                 for j in 0..size {
-                    let right = self.most[via][j];
-                    if right != NONE {
-                        self.add(i, j, left + right);
+                    if let Some(right) = self.bounds[via][j] {
+                        self.add(i, j, sum(left, right));
                     }
                 }
             }
         }
-        (0..size).all(|i| self.most[i][i] == 0).then_some(self)
+        let stays = |i: usize| self.bounds[i][i] == Some(most(0));
+        (0..size).all(stays).then_some(self)
     }
 
     /// What both sets have in common.
     pub fn and(mut self, other: &Bounds) -> Option<Bounds> {
         for i in 0..=self.n {
             for j in 0..=self.n {
-                self.add(i, j, other.most[i][j]);
+                if let Some(bound) = other.bounds[i][j] {
+                    self.add(i, j, bound);
+                }
             }
         }
         self.closed()
     }
 
-    /// Whether the times lie in the set.
-    pub fn holds(&self, x: &Times) -> bool {
+    /// The times of the set that are whole numbers of parts of a second: less
+    /// than b seconds is at most b * parts - 1 of them. None if there are none.
+    pub fn in_parts(&self, parts: usize) -> Option<Bounds> {
+        let mut set = Bounds::free(self.n);
+        for i in 0..=self.n {
+            for j in 0..=self.n {
+                if let Some(Bound { value, strict }) = self.bounds[i][j] {
+                    set.add(i, j, most(value * parts as i64 - i64::from(strict)));
+                }
+            }
+        }
+        set.closed()
+    }
+
+    /// Whether times in parts of a second lie in the set.
+    pub fn holds(&self, parts: usize, x: &Times) -> bool {
         let at = |i: usize| if i == 0 { 0 } else { x[i - 1] };
-        (0..=self.n).all(|i| (0..=self.n).all(|j| at(i) - at(j) <= self.most[i][j]))
+        let kept = |i: usize, j: usize| {
+            self.bounds[i][j].is_none_or(|bound| {
+                let (apart, allowed) = (at(i) - at(j), bound.value * parts as i64);
+                apart < allowed || apart == allowed && !bound.strict
+            })
+        };
+        (0..=self.n).all(|i| (0..=self.n).all(|j| kept(i, j)))
     }
 
     /// Whether a finite bound is beyond 2,000,000,000 in size.
     fn too_large(&self) -> bool {
-        let finite = self.most.iter().flatten().filter(|&&b| b != NONE);
-        finite.into_iter().any(|b| b.abs() > 2_000_000_000)
+        let mut finite = self.bounds.iter().flatten().flatten();
+        finite.any(|bound| bound.value.abs() > 2_000_000_000)
     }
 }
 
@@ -115,19 +150,20 @@ pub fn before(case: &Case, zone: &Bounds, selection: &Selection) -> Option<Bound
     let mut added = [0; 8];
     for row in 0..case.n {
         let selected = selection[row];
-        let most = case.time(row, selected).expect("a selected time");
+        let largest = case.time(row, selected).expect("a selected time");
         column[row + 1] = selected + 1;
-        added[row + 1] = most;
+        added[row + 1] = largest;
         for j in 0..case.n {
             if let Some(time) = case.time(row, j) {
-                set.add(j + 1, selected + 1, most - time);
+                set.add(j + 1, selected + 1, most(largest - time));
             }
         }
     }
     for i in 0..=case.n {
         for j in 0..=case.n {
-            if zone.most[i][j] != NONE {
-                set.add(column[i], column[j], zone.most[i][j] - added[i] + added[j]);
+            if let Some(bound) = zone.bounds[i][j] {
+                let back = most(added[j] - added[i]);
+                set.add(column[i], column[j], sum(bound, back));
             }
         }
     }
@@ -216,23 +252,41 @@ pub fn searched(case: &Case) -> (usize, bool) {
     }
 }
 
-/// The start picked from a set: for each departure in turn the greatest time;
-/// if there is none, the least; if neither, 0. Each time is fixed by two more
-/// bounds before the next is looked for.
+/// The parts of a second that a start is handed back in: 1, or n + 1 if a bound
+/// of either pattern is strict.
+pub fn parts_of(case: &Case) -> usize {
+    match case.bounds().flatten().any(|bound| bound.strict) {
+        true => case.n + 1,
+        false => 1,
+    }
+}
+
+/// The start picked from a set without strict bounds: for each departure in turn
+/// the greatest time; if there is none, the least; if neither, 0. Each time is
+/// fixed by two more bounds before the next is looked for.
 pub fn picked(set: &Bounds) -> Times {
     let mut set = *set;
     let mut times = [0; 7];
     for i in 1..=set.n {
         let closed = set.closed().expect("the set holds the times chosen so far");
-        times[i - 1] = match (closed.most[i][0], closed.most[0][i]) {
-            (NONE, NONE) => 0,
-            (NONE, below) => -below,
-            (greatest, _) => greatest,
+        times[i - 1] = match (closed.bounds[i][0], closed.bounds[0][i]) {
+            (None, None) => 0,
+            (None, Some(below)) => -below.value,
+            (Some(greatest), _) => greatest.value,
         };
-        set.add(i, 0, times[i - 1]);
-        set.add(0, i, -times[i - 1]);
+        set.add(i, 0, most(times[i - 1]));
+        set.add(0, i, most(-times[i - 1]));
     }
     times
+}
+
+/// The answer of an outcome that hands back no start.
+pub fn without_start(verdict: Verdict) -> Answer {
+    Answer {
+        verdict,
+        parts: 0,
+        start: [0; 7],
+    }
 }
 
 /// An answer and the lengths of the lists made on the way, from list 0 on; a
@@ -242,26 +296,37 @@ pub struct Outcome {
     pub lengths: Vec<usize>,
 }
 
-/// What list k decides, if anything.
-fn decided(list: &[Bounds], start: &Bounds, capacity: usize, k: usize) -> Option<Answer> {
-    let refused = |number| Answer {
-        verdict: Verdict::Refused(Fault {
-            number,
-            returned: k,
-        }),
-        start: [0; 7],
+/// What the first zone of list k that meets the start has in common with it, or
+/// the fault of the list.
+fn decided(
+    list: &[Bounds],
+    start: &Bounds,
+    capacity: usize,
+    k: usize,
+) -> Result<Option<Bounds>, Fault> {
+    let fault = |number| Fault {
+        number,
+        returned: k,
     };
     if list.len() > capacity {
-        return Some(refused(11));
+        return Err(fault(11));
     }
     if list.iter().any(Bounds::too_large) {
-        return Some(refused(12));
+        return Err(fault(12));
     }
-    let common = list.iter().find_map(|zone| zone.and(start))?;
-    Some(Answer {
-        verdict: Verdict::Reached { cycle: k },
-        start: picked(&common),
-    })
+    Ok(list.iter().find_map(|zone| zone.and(start)))
+}
+
+/// The answer that reaches the target at a cycle, with the start from a set.
+fn reached(case: &Case, cycle: usize, common: &Bounds) -> Answer {
+    let parts = parts_of(case);
+    let set = common.in_parts(parts);
+    let set = set.expect("a set that is not empty has times in so many parts");
+    Answer {
+        verdict: Verdict::Reached { cycle },
+        parts,
+        start: picked(&set),
+    }
 }
 
 /// The whole search on a case within the limits. Whether a list is dry is looked
@@ -279,9 +344,12 @@ pub fn search(case: &Case, capacity: usize) -> Outcome {
         }
         list = next_list(case, &selections, &list, capacity);
         lengths.push(list.len());
-        if let Some(answer) = decided(&list, &start, capacity, k) {
-            return Outcome { answer, lengths };
-        }
+        let answer = match decided(&list, &start, capacity, k) {
+            Err(fault) => without_start(Verdict::Refused(fault)),
+            Ok(Some(common)) => reached(case, k, &common),
+            Ok(None) => continue,
+        };
+        return Outcome { answer, lengths };
     }
     let verdict = if repeats || list.is_empty() {
         Verdict::Never
@@ -290,9 +358,6 @@ pub fn search(case: &Case, capacity: usize) -> Outcome {
             horizon: case.horizon,
         }
     };
-    let answer = Answer {
-        verdict,
-        start: [0; 7],
-    };
+    let answer = without_start(verdict);
     Outcome { answer, lengths }
 }

@@ -2,7 +2,7 @@
 
 use crate::archive::{Answer, Verdict};
 use crate::case::Case;
-use crate::enumeration::step;
+use crate::enumeration::{in_parts, step};
 use crate::faults;
 use crate::selections::search;
 
@@ -17,14 +17,20 @@ pub fn printed(bytes: &[u8]) -> String {
     }
 }
 
-/// The lines for an answer on a case.
+/// The lines for an answer on a case. Times are in parts of a second where a
+/// second has more than one.
 pub fn lines(case: &Case, answer: &Answer) -> String {
     match answer.verdict {
         Verdict::Refused(fault) => format!("refused {} {}\n", fault.number, fault.returned),
         Verdict::Clear { horizon } => format!("clear {horizon}\n"),
         Verdict::Never => "never\n".to_string(),
         Verdict::Reached { cycle: last } => {
-            let mut text = format!("reached {last}\n");
+            let of = match answer.parts {
+                1 => String::new(),
+                parts => format!(" of {parts}"),
+            };
+            let mut text = format!("reached {last}{of}\n");
+            let scaled = in_parts(case, answer.parts);
             let mut times = answer.start;
             for cycle in 0..=last {
                 text += &cycle.to_string();
@@ -32,7 +38,7 @@ pub fn lines(case: &Case, answer: &Answer) -> String {
                     text += &format!(" {time}");
                 }
                 text += "\n";
-                times = step(case, &times);
+                times = step(&scaled, &times);
             }
             text
         }

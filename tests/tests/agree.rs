@@ -1,21 +1,25 @@
 //! A test of the tests: brute search 1 against brute search 2.
 
 use evidence::archive::Verdict;
-use evidence::case::{pair, Case, Times};
+use evidence::case::{most, pair, Case, Times};
 use evidence::checks::unmet_up_to;
-use evidence::enumeration::{choice, first_cycle, first_in_box, image, starts, step, within};
-use evidence::random::{bearable, trial, Random};
-use evidence::selections::{before, next_list, picked, search, selections, Bounds, Selection};
+use evidence::enumeration::{
+    choice, first_cycle, first_in_box, image, in_parts, starts, step, tried_parts, within,
+};
+use evidence::random::{bearable, strict_trial, trial, Draw, Random};
+use evidence::selections::{
+    before, next_list, parts_of, picked, search, selections, Bounds, Selection,
+};
 
-/// The largest distance from the clock's zero in the boxes here, by n.
-fn radius(n: usize) -> i64 {
-    [0, 30, 7, 3, 2][n]
-}
+/// The largest distance from the clock's zero in the boxes here, by n: in
+/// seconds, and in boxes of starts in parts of a second, in seconds too.
+const RADIUS: [i64; 4] = [0, 30, 7, 3];
+const RADIUS_IN_PARTS: [i64; 4] = [0, 12, 3, 1];
 
 /// A random case of 1 to 3 departures.
-fn small_case(random: &mut Random) -> (Case, usize) {
+fn small_case(random: &mut Random, draw: Draw) -> (Case, usize) {
     loop {
-        let trial = trial(random);
+        let trial = draw(random);
         if trial.case.n <= 3 {
             return (trial.case, trial.capacity);
         }
@@ -23,17 +27,18 @@ fn small_case(random: &mut Random) -> (Case, usize) {
 }
 
 /// Bounds the start so that all of it lies in the box.
-fn enclose(case: &mut Case) {
-    let radius = radius(case.n);
+fn enclose(case: &mut Case, radii: &[i64; 4]) {
+    let radius = radii[case.n];
     for i in 1..=case.n {
         for place in [pair(case.n, i, 0), pair(case.n, 0, i)] {
-            case.start[place] = Some(case.start[place].unwrap_or(radius).min(radius));
+            let inside = case.start[place].filter(|bound| bound.value <= radius);
+            case.start[place] = inside.or(Some(most(radius)));
         }
     }
 }
 
 /// Compares one answer with enumeration and returns its kind.
-fn compare(case: &Case, capacity: usize, words: &str) -> usize {
+fn compare(case: &Case, capacity: usize, radius: i64, words: &str) -> usize {
     let answer = search(case, capacity).answer;
     let limit = unmet_up_to(&answer.verdict);
     let (kind, limit, met) = match answer.verdict {
@@ -42,41 +47,101 @@ fn compare(case: &Case, capacity: usize, words: &str) -> usize {
         Verdict::Never => (2, limit, None),
         Verdict::Refused(_) => (3, limit, None),
     };
-    let first = first_in_box(case, &[0; 7], radius(case.n), limit);
+    let parts = parts_of(case);
+    let reach = radius * parts as i64;
+    let first = first_in_box(&in_parts(case, parts), &[0; 7], reach, limit);
     assert_eq!(first, met, "{answer:?}, {words}");
     kind
 }
 
 /// Every start lies in the box, so enumeration decides when the target is met
 /// and which start is handed back.
-#[test]
-fn answers_on_enclosed_starts() {
+fn answers(draw: Draw, cases: u64, radii: &[i64; 4]) {
     let mut counts = [0; 4];
-    for seed in 0..4000 {
+    for seed in 0..cases {
         let mut random = Random::new(seed);
-        let (mut case, capacity) = small_case(&mut random);
-        enclose(&mut case);
+        let (mut case, capacity) = small_case(&mut random, draw);
+        enclose(&mut case, radii);
         if let Some(capacity) = bearable(&case, capacity) {
             let words = format!("seed {seed}, Z {capacity}, {case:?}");
-            counts[compare(&case, capacity, &words)] += 1;
+            counts[compare(&case, capacity, radii[case.n], &words)] += 1;
         }
     }
     println!("reached, clear, never, refused: {counts:?}");
     assert!(counts.iter().all(|&count| count > 100), "{counts:?}");
 }
 
-/// Each time of a start handed back is by the rule.
 #[test]
-fn starts_by_the_rule() {
+fn answers_on_enclosed_starts() {
+    answers(trial, 4000, &RADIUS);
+}
+
+#[test]
+fn answers_with_marks_on_enclosed_starts() {
+    answers(strict_trial, 4000, &RADIUS_IN_PARTS);
+}
+
+/// In whatever parts of a second, no start arrives before the verdict says; in
+/// those of the answer, and in parts of these, one arrives then. Returns whether
+/// none arrives in whole seconds.
+fn compare_parts(case: &Case, capacity: usize, words: &str) -> bool {
+    let answer = search(case, capacity).answer;
+    let unmet = unmet_up_to(&answer.verdict);
+    let mut in_seconds = true;
+    for parts in tried_parts(case.n) {
+        let reach = RADIUS_IN_PARTS[case.n] * parts as i64;
+        let first = |limit| {
+            let met = first_in_box(&in_parts(case, parts), &[0; 7], reach, limit);
+            met.map(|(cycle, _)| cycle)
+        };
+        let words = || format!("{parts} parts, {answer:?}, {words}");
+        assert_eq!(first(unmet), None, "{}", words());
+        let Verdict::Reached { cycle } = answer.verdict else {
+            continue;
+        };
+        let arrives = first(cycle) == Some(cycle);
+        assert!(
+            arrives || !parts.is_multiple_of(answer.parts),
+            "{}",
+            words()
+        );
+        in_seconds &= arrives || parts > 1;
+    }
+    !in_seconds
+}
+
+/// Compares in all parts and returns how often only fractions arrive.
+fn in_all_parts(draw: Draw, cases: u64) -> usize {
+    let fractions = (0..cases).filter(|&seed| {
+        let mut random = Random::new(seed);
+        let (mut case, capacity) = small_case(&mut random, draw);
+        enclose(&mut case, &RADIUS_IN_PARTS);
+        let words = format!("seed {seed}, {case:?}");
+        bearable(&case, capacity).is_some_and(|capacity| compare_parts(&case, capacity, &words))
+    });
+    fractions.count()
+}
+
+#[test]
+fn no_start_in_parts_contradicts() {
+    assert_eq!(in_all_parts(trial, 1500), 0);
+    let fractions = in_all_parts(strict_trial, 3000);
+    println!("reached in fractions alone: {fractions}");
+    assert!(fractions > 300, "{fractions}");
+}
+
+/// Each time of a start handed back is by the rule.
+fn by_the_rule(draw: Draw, cases: u64) {
     let mut counts = [0; 3];
-    for seed in 0..4000 {
-        let trial = trial(&mut Random::new(seed));
+    for seed in 0..cases {
+        let trial = draw(&mut Random::new(seed));
         let answer = search(&trial.case, trial.capacity).answer;
         let Verdict::Reached { cycle } = answer.verdict else {
             continue;
         };
+        let scaled = in_parts(&trial.case, answer.parts);
         for i in 0..trial.case.n {
-            let Some(choice) = choice(&trial.case, &answer.start, cycle, i) else {
+            let Some(choice) = choice(&scaled, &answer.start, cycle, i) else {
                 panic!("seed {seed}, departure {i}, {answer:?}, {:?}", trial.case);
             };
             counts[choice as usize] += 1;
@@ -84,6 +149,16 @@ fn starts_by_the_rule() {
     }
     println!("greatest, least, 0: {counts:?}");
     assert!(counts.iter().all(|&count| count > 200), "{counts:?}");
+}
+
+#[test]
+fn starts_by_the_rule() {
+    by_the_rule(trial, 4000);
+}
+
+#[test]
+fn starts_in_parts_by_the_rule() {
+    by_the_rule(strict_trial, 8000);
 }
 
 /// Whether each selected column attains its row's largest sum.
@@ -95,65 +170,129 @@ fn attains(case: &Case, selection: &Selection, x: &Times) -> bool {
     })
 }
 
-/// Each start of a box is in a selection's set just if the words say so.
-#[test]
-fn sets_of_selections() {
+/// Each start of a box is in a selection's set just if the words say so. Returns
+/// how many are.
+fn members(case: &Case, parts: usize, radius: i64, words: &str) -> usize {
+    let Some(zone) = Bounds::stated(case.n, &case.target).closed() else {
+        return 0;
+    };
+    let scaled = in_parts(case, parts);
+    let all = starts(case.n, &[0; 7], radius * parts as i64);
     let mut members = 0;
-    for seed in 0..1500 {
-        let mut random = Random::new(seed);
-        let (case, _) = small_case(&mut random);
-        let Some(zone) = Bounds::stated(case.n, &case.target).closed() else {
-            continue;
-        };
-        let all = starts(case.n, &[0; 7], radius(case.n));
-        for selection in selections(&case) {
-            let set = before(&case, &zone, &selection);
-            for x in &all {
-                let inside = set.is_some_and(|set| set.holds(x));
-                let image = step(&case, x);
-                let said = attains(&case, &selection, x) && within(case.n, &case.target, &image);
-                assert_eq!(inside, said, "seed {seed}, {x:?}, {selection:?}, {case:?}");
-                members += usize::from(inside);
-            }
+    for selection in selections(case) {
+        let set = before(case, &zone, &selection);
+        for x in &all {
+            let inside = set.is_some_and(|set| set.holds(parts, x));
+            let image = step(&scaled, x);
+            let said = attains(&scaled, &selection, x) && within(case.n, &scaled.target, &image);
+            assert_eq!(inside, said, "{parts} parts, {x:?}, {selection:?}, {words}");
+            members += usize::from(inside);
         }
     }
-    assert!(members > 10_000, "{members}");
+    members
 }
 
-/// Each start of a box is in a zone of list k just if its times at cycle k are
-/// in the target. A list that is not dry has such times, in the box or not.
 #[test]
-fn lists_and_images() {
-    let mut members = [0; 2];
-    let mut dry = [0; 2];
-    for seed in 0..800 {
-        let mut random = Random::new(seed);
-        let (case, _) = small_case(&mut random);
-        let selections = selections(&case);
+fn sets_of_selections() {
+    let mut count = 0;
+    for seed in 0..1500 {
+        let (case, _) = small_case(&mut Random::new(seed), trial);
+        let words = format!("seed {seed}, {case:?}");
+        count += members(&case, 1, RADIUS[case.n], &words);
+    }
+    assert!(count > 10_000, "{count}");
+}
+
+#[test]
+fn sets_of_selections_with_marks() {
+    let mut count = 0;
+    for seed in 0..1500 {
+        let (case, _) = small_case(&mut Random::new(seed), strict_trial);
+        let words = format!("seed {seed}, {case:?}");
+        for parts in tried_parts(case.n) {
+            count += members(&case, parts, RADIUS_IN_PARTS[case.n], &words);
+        }
+    }
+    assert!(count > 10_000, "{count}");
+}
+
+/// Which starts are in no zone and which in one, and which lists are not dry and
+/// which are.
+#[derive(Default)]
+struct Listed {
+    members: [usize; 2],
+    dry: [usize; 2],
+}
+
+impl Listed {
+    fn count(&mut self, case: &Case, parts: &[usize], radius: i64, words: &str) {
+        let selections = selections(case);
         let target = Bounds::stated(case.n, &case.target).closed();
         let mut list: Vec<Bounds> = target.into_iter().collect();
-        let all = starts(case.n, &[0; 7], radius(case.n));
         for k in 1..=5 {
-            list = next_list(&case, &selections, &list, 400);
+            list = next_list(case, &selections, &list, 400);
             if list.len() > 400 {
                 break;
             }
-            let met = |x: &Times| within(case.n, &case.target, &image(&case, x, k));
-            for x in &all {
-                let listed = list.iter().any(|zone| zone.holds(x));
-                assert_eq!(listed, met(x), "seed {seed}, k {k}, {x:?}, {case:?}");
-                members[usize::from(listed)] += 1;
+            let words = format!("k {k}, {words}");
+            for &parts in parts {
+                self.compare(case, parts, radius, (k, &list), &words);
             }
-            for zone in &list {
-                let x = picked(zone);
-                assert!(met(&x), "seed {seed}, k {k}, {x:?}, {case:?}");
-            }
-            dry[usize::from(list.is_empty())] += 1;
+            self.dry[usize::from(list.is_empty())] += 1;
         }
     }
+
+    /// Each start of a box is in a zone of list k just if its times at cycle k
+    /// are in the target. Where parts are enough for the case, each zone has such
+    /// times, in the box or not.
+    fn compare(
+        &mut self,
+        case: &Case,
+        parts: usize,
+        radius: i64,
+        (k, list): (usize, &[Bounds]),
+        words: &str,
+    ) {
+        let scaled = in_parts(case, parts);
+        let met = |x: &Times| within(case.n, &scaled.target, &image(&scaled, x, k));
+        for x in &starts(case.n, &[0; 7], radius * parts as i64) {
+            let listed = list.iter().any(|zone| zone.holds(parts, x));
+            assert_eq!(listed, met(x), "{parts} parts, {x:?}, {words}");
+            self.members[usize::from(listed)] += 1;
+        }
+        if !parts.is_multiple_of(parts_of(case)) {
+            return;
+        }
+        for zone in list {
+            let x = zone.in_parts(parts).as_ref().map(picked);
+            assert!(x.is_some_and(|x| met(&x)), "{parts} parts, {x:?}, {words}");
+        }
+    }
+}
+
+fn listed(draw: Draw, cases: u64, radii: &[i64; 4], parts: fn(usize) -> Vec<usize>) {
+    let mut found = Listed::default();
+    for seed in 0..cases {
+        let (case, _) = small_case(&mut Random::new(seed), draw);
+        let words = format!("seed {seed}, {case:?}");
+        found.count(&case, &parts(case.n), radii[case.n], &words);
+    }
+    let Listed { members, dry } = found;
     assert!(members.iter().all(|&count| count > 10_000), "{members:?}");
     println!("not dry, dry: {dry:?}");
     assert!(dry.iter().all(|&count| count > 300), "{dry:?}");
+}
+
+#[test]
+fn lists_and_images() {
+    listed(trial, 800, &RADIUS, |_| vec![1]);
+}
+
+#[test]
+fn lists_and_images_with_marks() {
+    listed(strict_trial, 800, &RADIUS_IN_PARTS, |n| {
+        tried_parts(n).collect()
+    });
 }
 
 /// The first cycle of a start is the least at which its times are in the target.

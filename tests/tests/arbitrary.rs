@@ -1,8 +1,9 @@
-//! Arbitrary bytes and mutated cases: every call ends, answers as the faults
-//! and brute search 2 say, and leaves the workspace as it must be.
+//! Arbitrary bytes, mutated cases and arbitrary marks: every call ends, answers
+//! as the faults and brute search 2 say, and leaves the workspace as it must be.
 
 use evidence::archive;
-use evidence::checks::{named, of_packed, Lent};
+use evidence::case::{Case, Entries};
+use evidence::checks::{named, named_unpacked, noisy, of_packed, of_unpacked, Lent};
 use evidence::faults;
 use evidence::random::{bearable, trial, Random};
 
@@ -93,4 +94,44 @@ fn mutated_cases() {
     }
     println!("cases left after mutation: {cases}");
     assert!(cases >= 3000, "only {cases} were cases");
+}
+
+/// A case with any bytes in the places of the marks, some of them mostly 0.
+fn any_marks(random: &mut Random, mut case: Case) -> (Case, Entries) {
+    let mut entries = noisy(random, &case);
+    let zeros = random.below(4);
+    for byte in &mut entries.strict {
+        *byte = match random.below(4) < zeros {
+            true => 0,
+            false => random.draw() as u8,
+        };
+    }
+    let bounds = case.start.iter_mut().chain(&mut case.target);
+    for (bound, &byte) in bounds.zip(&entries.strict[49..]) {
+        if let Some(bound) = bound {
+            bound.strict = byte != 0;
+        }
+    }
+    (case, entries)
+}
+
+#[test]
+fn arbitrary_marks() {
+    let mut counts = [0; 9];
+    for seed in 6_000_000..6_020_000 {
+        let mut random = Random::new(seed);
+        let trial = trial(&mut random);
+        let (case, entries) = any_marks(&mut random, trial.case);
+        let (n, horizon, capacity) = (case.n, case.horizon, trial.capacity);
+        let length = faults::workspace(n, capacity) + random.below(3);
+        let mut lent = Lent::new(&mut random, length);
+        let answer = archive::verdict_entries(n, horizon, &entries, capacity, lent.part());
+        let words = || named_unpacked(seed, &case, capacity);
+        let expected = of_unpacked(&case, capacity, length);
+        assert_eq!(answer, Ok(expected), "archive, brute: {}", words());
+        assert_eq!(lent.right_after(&expected), Ok(()), "{}", words());
+        counts[expected.parts] += 1;
+    }
+    println!("parts 0 to 8: {counts:?}");
+    assert!(counts[..6].iter().all(|&count| count >= 100), "{counts:?}");
 }

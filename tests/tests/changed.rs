@@ -2,11 +2,11 @@
 //! on a changed copy, and against the faults of request [2].
 
 use evidence::archive::{self, Answer, Change, Fault, Verdict};
-use evidence::case::{Case, Entries};
+use evidence::case::{most, Case, Entries};
 use evidence::checks::{fault_number, noisy, refused, Lent};
 use evidence::damage::{self, ChangeCall, UnpackedCall};
 use evidence::faults;
-use evidence::random::Random;
+use evidence::random::{strict_trial, trial, Draw, Random};
 
 /// What a commit must leave: one place set, all else as it was.
 fn with_place(n: usize, entries: &Entries, change: &Change) -> Entries {
@@ -60,12 +60,11 @@ fn enough(what: &str, counts: &[usize], places: &[usize]) {
     }
 }
 
-/// At least 20,000 changes that get as far as a verdict on the copy.
-#[test]
-fn copies() {
+/// Random changes, two in three of which get as far as a verdict on the copy.
+fn compare_copies(cases: u64, draw: Draw) {
     let (mut own, mut later, mut kinds) = ([0; 16], [0; 16], [0; 4]);
-    for seed in 6_000_000..6_030_000 {
-        let given = damage::changed(&mut Random::new(seed));
+    for seed in 6_000_000..6_000_000 + cases {
+        let given = damage::changed(&mut Random::new(seed), draw);
         let ChangeCall { call, change } = &given;
         let (case, capacity, length) = (&call.case, call.capacity, call.work_length);
         let answer = on_a_copy(&given);
@@ -89,9 +88,20 @@ fn copies() {
         kinds[2 * usize::from(old.is_some()) + usize::from(change.has != 0)] += 1;
     }
     enough("the case's own faults, and 15", &own, &[2, 3, 4, 5, 6, 15]);
-    assert!(later.iter().sum::<usize>() >= 20_000, "{later:?}");
+    let judged: usize = later.iter().sum();
+    assert!(3 * judged >= 2 * cases as usize, "{later:?}");
     enough("none, and later faults", &later, &[0, 4, 5, 9, 10, 11]);
     enough("blank, filled, blanked, replaced", &kinds, &[0, 1, 2, 3]);
+}
+
+#[test]
+fn copies() {
+    compare_copies(30_000, trial);
+}
+
+#[test]
+fn copies_with_marks() {
+    compare_copies(10_000, strict_trial);
 }
 
 /// One cycle of n departures with times in one column alone, all 0, and the
@@ -120,6 +130,7 @@ fn plain(n: usize, row: usize, column: usize) -> ChangeCall {
 fn check_plain(given: &ChangeCall, judged: Result<(), (usize, usize)>) {
     let reached = Answer {
         verdict: Verdict::Reached { cycle: 1 },
+        parts: 1,
         start: [0; 7],
     };
     let judged = judged.map_err(|(number, returned)| Fault { number, returned });
@@ -183,8 +194,12 @@ const CAUSES: [Cause; 12] = [
     (4, 1, |given| given.call.case.times[1] = Some(86_401)),
     (5, 3, |given| given.call.case.times[4] = None),
     (4, 7, |given| given.call.case.times[7] = Some(-86_401)),
-    (6, 2, |given| given.call.case.start[2] = Some(1_000_001)),
-    (6, 12, |given| given.call.case.target[0] = Some(-1_000_001)),
+    (6, 2, |given| {
+        given.call.case.start[2] = Some(most(1_000_001))
+    }),
+    (6, 12, |given| {
+        given.call.case.target[0] = Some(most(-1_000_001))
+    }),
     (15, 0, |given| given.change.row = 4),
     (4, 7, |given| {
         (given.change.has, given.change.time) = (1, 86_401)

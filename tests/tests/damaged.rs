@@ -1,12 +1,14 @@
 //! Damaged inputs and calls: the archive's faults against `faults.rs`, and the
 //! workspace afterwards.
 
-use evidence::archive::{self, Run};
+use evidence::archive::{self, Run, RunInParts};
+use evidence::case::Case;
 use evidence::checks::{fault_number, named, named_unpacked, noisy, of_packed, of_unpacked, Lent};
 use evidence::damage;
-use evidence::enumeration::image;
+use evidence::enumeration::{image, in_parts};
 use evidence::faults;
-use evidence::random::Random;
+use evidence::random::{strict_trial, trial, Draw, Random};
+use evidence::selections::parts_of;
 
 /// How often each fault, or none, must occur at least; 12 cannot be met.
 const LEAST: usize = 40;
@@ -44,12 +46,11 @@ fn packed() {
     enough(&counts, &[0, 1, 2, 4, 5, 6, 7, 8, 9, 10, 11]);
 }
 
-#[test]
-fn unpacked() {
+fn compare_unpacked(draw: Draw) {
     let mut counts = [0; 14];
     for seed in 2_000_000..2_014_000 {
         let mut random = Random::new(seed);
-        let call = damage::unpacked(&mut random);
+        let call = damage::unpacked(&mut random, draw);
         let expected = of_unpacked(&call.case, call.capacity, call.work_length);
         let mut lent = Lent::new(&mut random, call.work_length);
         let entries = noisy(&mut random, &call.case);
@@ -69,27 +70,51 @@ fn unpacked() {
     enough(&counts, &[0, 2, 3, 4, 5, 6, 9, 10, 11]);
 }
 
-/// What a run must give.
-fn expected_run(call: &damage::RunCall) -> Run {
+#[test]
+fn unpacked() {
+    compare_unpacked(trial);
+}
+
+#[test]
+fn unpacked_with_marks() {
+    compare_unpacked(strict_trial);
+}
+
+/// What a run must give, in seconds or in parts of a second.
+fn expected_run(call: &damage::RunCall, parts: usize) -> Run {
     let judged = faults::of_run(&call.case, &call.start, call.cycle);
     let mut start = call.start;
     let times = match judged {
         Ok(()) => {
             start[call.case.n..].fill(0);
-            image(&call.case, &start, call.cycle)
+            // A run does not look at the bounds, which may be too large here.
+            let table = Case {
+                start: [None; 56],
+                target: [None; 56],
+                ..call.case
+            };
+            image(&in_parts(&table, parts), &start, call.cycle)
         }
         Err(_) => [0; 7],
     };
     Run { judged, times }
 }
 
-#[test]
-fn runs() {
-    let mut counts = [0; 14];
+/// What a run in parts must give.
+fn expected_in_parts(call: &damage::RunCall) -> RunInParts {
+    let judged = faults::of_run(&call.case, &call.start, call.cycle);
+    let parts = judged.map_or(0, |()| parts_of(&call.case));
+    let run = expected_run(call, parts);
+    RunInParts { run, parts }
+}
+
+/// Damaged runs; returns how often the parts are 0, 1 and more.
+fn compare_runs(draw: Draw) -> [usize; 3] {
+    let (mut counts, mut kinds) = ([0; 14], [0; 3]);
     for seed in 3_000_000..3_014_000 {
         let mut random = Random::new(seed);
-        let call = damage::run(&mut random);
-        let expected = expected_run(&call);
+        let call = damage::run(&mut random, draw);
+        let expected = expected_run(&call, 1);
         let entries = noisy(&mut random, &call.case);
         let run = archive::run_entries(call.case.n, &entries, &call.start, call.cycle);
         let (start, cycle) = (&call.start, call.cycle);
@@ -100,7 +125,29 @@ fn runs() {
             "archive, brute: cycle {cycle} from {}",
             words()
         );
+        let in_parts = expected_in_parts(&call);
+        let run = archive::run_parts_entries(call.case.n, &entries, start, cycle);
+        assert_eq!(
+            run,
+            Ok(in_parts),
+            "in parts, brute: cycle {cycle} from {}",
+            words()
+        );
         counts[expected.judged.map_or_else(|fault| fault.number, |_| 0)] += 1;
+        kinds[in_parts.parts.min(2)] += 1;
     }
     enough(&counts, &[0, 2, 3, 4, 5, 13]);
+    kinds
+}
+
+#[test]
+fn runs() {
+    let [_, whole, in_parts] = compare_runs(trial);
+    assert!(whole > 1000 && in_parts == 0, "{whole}, {in_parts}");
+}
+
+#[test]
+fn runs_with_marks() {
+    let [_, _, in_parts] = compare_runs(strict_trial);
+    assert!(in_parts > 1000, "{in_parts}");
 }

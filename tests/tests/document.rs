@@ -1,12 +1,12 @@
 //! The examples of the statement, through brute search 2, the text maker and
 //! the archive.
 
-use evidence::archive::{self, Answer, Fault, Run, Verdict};
-use evidence::case::{pair, Case, Times};
+use evidence::archive::{self, Answer, Fault, Run, RunInParts, Verdict};
+use evidence::case::{less, most, pair, Case, Times};
 use evidence::checks::refused;
 use evidence::faults;
-use evidence::selections::{first_repeat, search, Repeat};
-use evidence::text::printed;
+use evidence::selections::{first_repeat, parts_of, search, without_start, Bounds, Repeat};
+use evidence::text::{lines, printed};
 
 /// A pair of departures and a bound on their difference.
 type Bound = (usize, usize, i64);
@@ -35,26 +35,64 @@ fn o(horizon: usize) -> Case {
 /// The case with these bounds in its start and its target.
 fn from_to(mut case: Case, start: &[Bound], target: &[Bound]) -> Case {
     for &(i, j, bound) in start {
-        case.start[pair(case.n, i, j)] = Some(bound);
+        case.start[pair(case.n, i, j)] = Some(most(bound));
     }
     for &(i, j, bound) in target {
-        case.target[pair(case.n, i, j)] = Some(bound);
+        case.target[pair(case.n, i, j)] = Some(most(bound));
     }
     case
 }
 
-/// Checks one example against brute search 2 and both forms of the archive.
-fn check(case: &Case, capacity: usize, verdict: Verdict, first: [i64; 2]) {
-    let mut start: Times = [0; 7];
-    start[..2].copy_from_slice(&first);
-    let stated = Answer { verdict, start };
+/// The same with strict bounds.
+fn from_to_less(mut case: Case, start: &[Bound], target: &[Bound]) -> Case {
+    for &(i, j, bound) in start {
+        case.start[pair(case.n, i, j)] = Some(less(bound));
+    }
+    for &(i, j, bound) in target {
+        case.target[pair(case.n, i, j)] = Some(less(bound));
+    }
+    case
+}
+
+/// Checks one example against brute search 2 and both forms of the archive; a
+/// case with strict bounds has no packed form.
+fn check_answer(case: &Case, capacity: usize, stated: Answer) {
     let length = faults::workspace(case.n, capacity);
     let searched = search(case, capacity).answer;
     assert_eq!(searched, stated, "brute search, Z {capacity}, {case:?}");
-    let packed = archive::verdict(&case.pack(), capacity, &mut vec![7; length]);
-    assert_eq!(packed, Ok(stated), "packed, Z {capacity}, {case:?}");
     let unpacked = archive::verdict_unpacked(case, capacity, &mut vec![7; length]);
     assert_eq!(unpacked, Ok(stated), "unpacked, Z {capacity}, {case:?}");
+    if parts_of(case) == 1 {
+        let packed = archive::verdict(&case.pack(), capacity, &mut vec![7; length]);
+        assert_eq!(packed, Ok(stated), "packed, Z {capacity}, {case:?}");
+    }
+}
+
+/// Times that begin with these.
+fn times(first: &[i64]) -> Times {
+    let mut times = [0; 7];
+    times[..first.len()].copy_from_slice(first);
+    times
+}
+
+/// Checks an example whose start, if any, is in whole seconds.
+fn check(case: &Case, capacity: usize, verdict: Verdict, first: [i64; 2]) {
+    let stated = Answer {
+        verdict,
+        parts: usize::from(matches!(verdict, Verdict::Reached { .. })),
+        start: times(&first),
+    };
+    check_answer(case, capacity, stated);
+}
+
+/// Checks an example that is reached with a start in parts of a second.
+fn check_parts(case: &Case, cycle: usize, parts: usize, first: &[i64]) {
+    let stated = Answer {
+        verdict: reached(cycle),
+        parts,
+        start: times(first),
+    };
+    check_answer(case, 128, stated);
 }
 
 fn reached(cycle: usize) -> Verdict {
@@ -124,10 +162,115 @@ fn dry_lists() {
     check(&nobody, 1, Verdict::Never, [0, 0]);
 }
 
+/// d between 0 and 1, without both.
+const BETWEEN: [Bound; 2] = [(1, 2, 1), (2, 1, 0)];
+
+/// The bounds of request [6] can be met, in the start and in the target. With
+/// "less than b" written as b - 1 nobody meets them.
+#[test]
+fn strict_bounds() {
+    check_parts(&from_to_less(s(1), &BETWEEN, &[]), 1, 3, &[0, -1]);
+    check_parts(&from_to_less(s(1), &[], &BETWEEN), 1, 3, &[0, 2]);
+    let both = |horizon| from_to_less(s(horizon), &BETWEEN, &BETWEEN);
+    check_parts(&both(2), 2, 3, &[0, -1]);
+    check_answer(&both(1), 128, without_start(clear(1)));
+    let whole = [(1, 2, 0), (2, 1, -1)];
+    check(&from_to(s(2), &whole, &whole), 128, Verdict::Never, [0, 0]);
+    let zone = Bounds::stated(2, &both(1).start).closed();
+    let zone = zone.expect("a zone that is not empty");
+    assert_eq!(zone.in_parts(1), None);
+}
+
+/// Request [4]'s example with strict bounds: less than 9 is at most 17 halves.
+/// The parts go by the patterns, also where the set shows no strict bound.
+#[test]
+fn latest_start_in_parts() {
+    let mut minute = o(1);
+    minute.times[0] = Some(60);
+    let below_nine = from_to_less(minute, &[(0, 1, 0), (1, 0, 9)], &[]);
+    check_parts(&below_nine, 1, 2, &[17]);
+    let until_nine = from_to(minute, &[(0, 1, 0), (1, 0, 9)], &[]);
+    check_parts(&from_to_less(until_nine, &[], &[(1, 0, 1000)]), 1, 2, &[18]);
+    check_parts(&from_to_less(minute, &[(0, 1, 5)], &[]), 1, 2, &[-9]);
+}
+
+/// 0 < x(1) < ... < x(n) < 1 has times in (n + 1)ths, and in nothing coarser.
+#[test]
+fn parts_that_are_needed() {
+    for n in 1..=7 {
+        let mut case = Case::empty(n, 1);
+        for i in 0..n {
+            case.times[i * n + i] = Some(0);
+            case.start[pair(n, i, i + 1)] = Some(less(0));
+        }
+        case.start[pair(n, n, 0)] = Some(less(1));
+        let zone = Bounds::stated(n, &case.start).closed();
+        let zone = zone.expect("a zone that is not empty");
+        assert!((1..=n).all(|parts| zone.in_parts(parts).is_none()));
+        let steps: Vec<i64> = (1..=n as i64).collect();
+        check_parts(&case, 1, n + 1, &steps);
+    }
+}
+
+/// A strict bound that states 0 around a cycle leaves nothing.
+#[test]
+fn strict_and_empty() {
+    let nobody = from_to_less(from_to(s(3), &[], &[(1, 2, 0)]), &[], &[(2, 1, 0)]);
+    check_answer(&nobody, 128, without_start(Verdict::Never));
+    check(&from_to(nobody, &[], &[(2, 1, 0)]), 128, reached(1), [0, 0]);
+}
+
+/// Marks of the times, of absent bounds and of those beyond n are ignored: the
+/// start is in whole seconds.
+#[test]
+fn marks_that_do_not_count() {
+    let one = [(1, 2, 1), (2, 1, -1)];
+    let case = from_to(s(2), &one, &one);
+    let mut entries = case.entries();
+    for (mark, present) in entries.strict.iter_mut().zip(&entries.present) {
+        *mark = 255 * (1 - present);
+    }
+    entries.strict[..49].fill(255);
+    let stated = Answer {
+        verdict: reached(2),
+        parts: 1,
+        start: times(&[0, -1]),
+    };
+    let mut work = vec![7; faults::workspace(2, 128)];
+    let answer = archive::verdict_entries(2, 2, &entries, 128, &mut work);
+    assert_eq!(answer, Ok(stated));
+    let ran = archive::run_parts_entries(2, &entries, &stated.start, 1);
+    assert_eq!(ran.map(|ran| ran.parts), Ok(1));
+}
+
+/// A run of the start that is handed back, in thirds, and what the program would
+/// print of it.
+#[test]
+fn runs_in_parts() {
+    let case = from_to_less(s(2), &BETWEEN, &BETWEEN);
+    for (cycle, first) in [(0, [0, -1]), (1, [-1, 0]), (2, [0, -1])] {
+        let run = Run {
+            judged: Ok(()),
+            times: times(&first),
+        };
+        let ran = archive::run_parts(&case, &times(&[0, -1]), cycle);
+        assert_eq!(ran, Ok(RunInParts { run, parts: 3 }));
+    }
+    let answer = search(&case, 128).answer;
+    let text = "reached 2 of 3\n0 0 -1\n1 -1 0\n2 0 -1\n";
+    assert_eq!(lines(&case, &answer), text);
+    let after = |case: &Case| archive::run_parts(case, &[0; 7], 2).map(|ran| ran.run.times);
+    assert_eq!(after(&r(1)), Ok(times(&[8, 8])));
+    assert_eq!(
+        after(&from_to_less(r(1), &[(1, 2, 9)], &[])),
+        Ok(times(&[24, 24]))
+    );
+}
+
 #[test]
 fn images_of_the_first_example() {
     let after = |first, second| {
-        let times = [first, second, 0, 0, 0, 0, 0];
+        let times = times(&[first, second]);
         let judged = Ok(());
         Ok(Run { judged, times })
     };
@@ -175,10 +318,7 @@ fn edges_of_values() {
 
 #[test]
 fn edges_of_the_call() {
-    let never = Answer {
-        verdict: Verdict::Never,
-        start: [0; 7],
-    };
+    let never = without_start(Verdict::Never);
     let fault = |number| {
         let returned = 0;
         refused(Fault { number, returned })
@@ -208,8 +348,8 @@ fn packed_lengths() {
     assert_eq!(case.pack(), [0x20, 0x40, 0x03, 0xC0]);
     let mut longest = Case::empty(7, 64);
     longest.times.fill(Some(-1));
-    longest.start.fill(Some(1));
-    longest.target.fill(Some(-1));
+    longest.start.fill(Some(most(1)));
+    longest.target.fill(Some(most(-1)));
     assert_eq!(longest.pack().len(), 426);
     assert_eq!(faults::of_packed(&longest.pack()), Ok(longest));
 }

@@ -19,6 +19,14 @@ static void print_line(uint32_t kind, size_t fault, size_t value,
     printf("\n");
 }
 
+/* The same, led by the parts of a second that the times are in. */
+static void print_parts(size_t parts, uint32_t kind, size_t fault,
+                        size_t value, const int64_t times[7])
+{
+    printf("of %zu: ", parts);
+    print_line(kind, fault, value, times);
+}
+
 /* How many numbers of the workspace are not 0. */
 static size_t not_zero(void)
 {
@@ -31,42 +39,43 @@ static size_t not_zero(void)
 int main(void)
 {
     static const uint8_t bytes[] = {0x20, 0x40, 0x03, 0xC0};
-    size_t fault, value;
+    size_t fault, value, parts;
     int64_t times[7];
 
     memset(work, 1, sizeof work);
     uint32_t kind = tramcheck_verdict(bytes, sizeof bytes, ZONES, work,
                                       TRAMCHECK_WORKSPACE(ZONES), &fault,
-                                      &value, times);
-    print_line(kind, fault, value, times);
+                                      &value, &parts, times);
+    print_parts(parts, kind, fault, value, times);
     printf("%d %zu\n", kind == TRAMCHECK_REACHED, not_zero());
 
     /* The same case unpacked, then with a target that is never met. */
     uint8_t present[TRAMCHECK_ENTRIES] = {0};
+    uint8_t strict[TRAMCHECK_ENTRIES] = {0};
     int64_t values[TRAMCHECK_ENTRIES] = {0};
     present[0] = 1;
     values[0] = 60;
-    kind = tramcheck_verdict_unpacked(1, 1, present, values, ZONES, work,
-                                      TRAMCHECK_WORKSPACE(ZONES), &fault,
-                                      &value, times);
-    print_line(kind, fault, value, times);
+    kind = tramcheck_verdict_unpacked(1, 1, present, strict, values, ZONES,
+                                      work, TRAMCHECK_WORKSPACE(ZONES), &fault,
+                                      &value, &parts, times);
+    print_parts(parts, kind, fault, value, times);
     present[105] = 1;
     values[105] = -1;
     present[106] = 1;
-    kind = tramcheck_verdict_unpacked(1, 1, present, values, ZONES, work,
-                                      TRAMCHECK_WORKSPACE(ZONES), &fault,
-                                      &value, times);
-    print_line(kind, fault, value, times);
+    kind = tramcheck_verdict_unpacked(1, 1, present, strict, values, ZONES,
+                                      work, TRAMCHECK_WORKSPACE(ZONES), &fault,
+                                      &value, &parts, times);
+    print_parts(parts, kind, fault, value, times);
     printf("%d\n", kind == TRAMCHECK_NEVER);
 
     /* Now the target can be met, and both patterns name the clock, so that
      * nothing is known later. */
     present[105] = 0;
     present[49] = 1;
-    kind = tramcheck_verdict_unpacked(1, 1, present, values, ZONES, work,
-                                      TRAMCHECK_WORKSPACE(ZONES), &fault,
-                                      &value, times);
-    print_line(kind, fault, value, times);
+    kind = tramcheck_verdict_unpacked(1, 1, present, strict, values, ZONES,
+                                      work, TRAMCHECK_WORKSPACE(ZONES), &fault,
+                                      &value, &parts, times);
+    print_parts(parts, kind, fault, value, times);
     printf("%d\n", kind == TRAMCHECK_CLEAR);
 
     /* A run over ten cycles, and one that is refused. */
@@ -81,15 +90,16 @@ int main(void)
      * that is too short. */
     size_t n, horizon;
     uint8_t out[5] = {1, 2, 3, 4, 5};
-    kind = tramcheck_read(bytes, sizeof bytes, &n, &horizon, present, values,
-                          &fault, &value);
-    printf("%u %zu %zu: %zu %zu, %u %lld\n", (unsigned)kind, fault, value, n,
-           horizon, present[0], (long long)values[0]);
-    kind = tramcheck_write(n, horizon, present, values, out, sizeof out,
-                           &fault, &value);
+    memset(strict, 1, sizeof strict);
+    kind = tramcheck_read(bytes, sizeof bytes, &n, &horizon, present, strict,
+                          values, &fault, &value);
+    printf("%u %zu %zu: %zu %zu, %u %u %lld\n", (unsigned)kind, fault, value,
+           n, horizon, present[0], strict[0], (long long)values[0]);
+    kind = tramcheck_write(n, horizon, present, strict, values, out,
+                           sizeof out, &fault, &value);
     printf("%u %zu %zu: %d %u\n", (unsigned)kind, fault, value,
            memcmp(out, bytes, sizeof bytes), out[4]);
-    kind = tramcheck_write(n, horizon, present, values, out, 3, &fault,
+    kind = tramcheck_write(n, horizon, present, strict, values, out, 3, &fault,
                            &value);
     printf("%u %zu %zu\n", (unsigned)kind, fault, value);
     printf("%d\n", TRAMCHECK_DONE);
@@ -100,19 +110,36 @@ int main(void)
     memset(present + TRAMCHECK_TARGET, 1, 2);
     values[TRAMCHECK_TARGET] = -90;
     values[TRAMCHECK_TARGET + 1] = 90;
-    kind = tramcheck_preview(n, horizon, present, values, 1, 1, 1, 60, ZONES,
-                             work, TRAMCHECK_WORKSPACE(ZONES), &fault, &value,
-                             times);
-    print_line(kind, fault, value, times);
-    kind = tramcheck_preview(n, horizon, present, values, 1, 1, 1, 90, ZONES,
-                             work, TRAMCHECK_WORKSPACE(ZONES), &fault, &value,
-                             times);
-    print_line(kind, fault, value, times);
+    for (int64_t time = 60; time <= 90; time += 30) {
+        kind = tramcheck_preview(n, horizon, present, strict, values, 1, 1, 1,
+                                 time, ZONES, work,
+                                 TRAMCHECK_WORKSPACE(ZONES), &fault, &value,
+                                 &parts, times);
+        print_parts(parts, kind, fault, value, times);
+    }
     for (int blank = 0; blank < 2; blank++) {
-        kind = tramcheck_commit(n, horizon, present, values, 1, 1, !blank, 90,
-                                &fault, &value);
+        kind = tramcheck_commit(n, horizon, present, strict, values, 1, 1,
+                                !blank, 90, &fault, &value);
         printf("%u %zu %zu: %u %lld\n", (unsigned)kind, fault, value,
                present[0], (long long)values[0]);
     }
+
+    /* From between 0 and 1 to between 90 and 91, all of them strict: in halves
+     * of a second, as is the run. No packed case has such bounds. */
+    memset(strict + TRAMCHECK_START, 1, 2);
+    memset(strict + TRAMCHECK_TARGET, 1, 2);
+    values[TRAMCHECK_START + 1] = 1;
+    values[TRAMCHECK_TARGET + 1] = 91;
+    kind = tramcheck_verdict_unpacked(1, 1, present, strict, values, ZONES,
+                                      work, TRAMCHECK_WORKSPACE(ZONES), &fault,
+                                      &value, &parts, times);
+    print_parts(parts, kind, fault, value, times);
+    memcpy(start, times, sizeof start);
+    kind = tramcheck_run_parts(1, present, strict, values, start, 1, &fault,
+                               &value, &parts, times);
+    print_parts(parts, kind, fault, value, times);
+    kind = tramcheck_write(n, horizon, present, strict, values, out, 0, &fault,
+                           &value);
+    printf("%u %zu %zu\n", (unsigned)kind, fault, value);
     return 0;
 }

@@ -35,24 +35,27 @@ fn a_c_program_embeds_the_archive() {
     let output = Command::new(compiled()).output().expect("it starts");
     assert!(output.status.success(), "ended with {}", output.status);
     let stated = "\
-1 0 1 0 0 0 0 0 0 0
+of 1: 1 0 1 0 0 0 0 0 0 0
 1 0
-1 0 1 0 0 0 0 0 0 0
-3 0 0 0 0 0 0 0 0 0
+of 1: 1 0 1 0 0 0 0 0 0 0
+of 0: 3 0 0 0 0 0 0 0 0 0
 1
-2 0 1 0 0 0 0 0 0 0
+of 0: 2 0 1 0 0 0 0 0 0 0
 1
 1 0 10 593 0 0 0 0 0 0
 0 3 0 0 0 0 0 0 0 0
 1
-4 0 4: 1 1, 1 60
+4 0 4: 1 1, 1 0 60
 4 0 4: 0 5
 0 14 4
 4
-2 0 1 0 0 0 0 0 0 0
-1 0 1 0 0 0 0 0 0 0
+of 0: 2 0 1 0 0 0 0 0 0 0
+of 1: 1 0 1 0 0 0 0 0 0 0
 4 0 0: 1 90
 0 5 0: 1 90
+of 2: 1 0 1 1 0 0 0 0 0 0
+of 2: 1 0 1 181 0 0 0 0 0 0
+0 16 0
 ";
     assert_eq!(String::from_utf8_lossy(&output.stdout), stated);
 }

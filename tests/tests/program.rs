@@ -1,7 +1,7 @@
 //! The program: what it prints, byte for byte, however its input and output
 //! are set up.
 
-use evidence::case::{pair, Case};
+use evidence::case::{most, pair, Case};
 use evidence::checks::named;
 use evidence::damage;
 use evidence::faults;
@@ -92,10 +92,10 @@ fn long_case() -> Case {
     for i in 0..7 {
         case.times[8 * i] = Some(if i == 0 { 15_625 } else { -86_400 });
         let first = if i == 0 { 0 } else { -1_000_000 };
-        case.start[pair(7, i + 1, 0)] = Some(first);
-        case.start[pair(7, 0, i + 1)] = Some(-first);
+        case.start[pair(7, i + 1, 0)] = Some(most(first));
+        case.start[pair(7, 0, i + 1)] = Some(most(-first));
     }
-    case.target[pair(7, 0, 1)] = Some(-1_000_000);
+    case.target[pair(7, 0, 1)] = Some(most(-1_000_000));
     case
 }
 

@@ -1,15 +1,20 @@
 //! Random cases: the archive against both brute searches.
 
-use evidence::archive::{self, Answer, Verdict};
-use evidence::case::Case;
-use evidence::checks::{named, noisy, unmet_up_to, Lent};
-use evidence::enumeration::{first_in_box, leads};
+use evidence::archive::{self, Answer, Run, RunInParts, Verdict};
+use evidence::case::{Case, Times};
+use evidence::checks::{named, named_unpacked, noisy, unmet_up_to, Lent};
+use evidence::enumeration::{first_in_box, image, in_parts, leads, tried_parts};
 use evidence::faults;
-use evidence::random::{crowded_trial, dense_trial, sharper, trial, Random, Trial};
-use evidence::selections::{search, Outcome};
+use evidence::random::{
+    crowded_trial, dense_trial, sharper, strict_dense_trial, strict_trial, trial, Draw, Random,
+    Trial,
+};
+use evidence::selections::{parts_of, search, Outcome};
 use std::thread;
 
+/// Cases without a strict bound, and with one.
 const CASES: u64 = 24_000;
+const MARKED: u64 = 12_000;
 const WORKERS: u64 = 4;
 
 /// Calls by outcome: reached at 1, reached later, clear, never by a repeated
@@ -32,15 +37,24 @@ fn workspace(random: &mut Random, case: &Case, capacity: usize) -> Lent {
     Lent::new(random, faults::workspace(case.n, capacity) + more)
 }
 
-/// The packed and the unpacked case must both give the expected answer and
-/// leave the workspace as it must be.
-fn compare(seed: u64, random: &mut Random, case: &Case, capacity: usize, expected: &Answer) {
+/// The packed case must give the expected answer and leave the workspace as it
+/// must be.
+fn compare_packed(seed: u64, random: &mut Random, case: &Case, capacity: usize, expected: &Answer) {
     let bytes = case.pack();
     let mut lent = workspace(random, case, capacity);
     let packed = archive::verdict(&bytes, capacity, lent.part());
     let words = || named(seed, &bytes, capacity);
     assert_eq!(packed, Ok(*expected), "archive, brute search: {}", words());
     assert_eq!(lent.right_after(expected), Ok(()), "{}", words());
+}
+
+/// The unpacked case must do so too, and a run from the start that it hands back
+/// must give the times of that start at the cycle reached.
+fn compare(seed: u64, random: &mut Random, case: &Case, capacity: usize, expected: &Answer) {
+    if parts_of(case) == 1 {
+        compare_packed(seed, random, case, capacity, expected);
+    }
+    let words = || named_unpacked(seed, case, capacity);
     let mut lent = workspace(random, case, capacity);
     let entries = noisy(random, case);
     let (n, horizon) = (case.n, case.horizon);
@@ -52,21 +66,57 @@ fn compare(seed: u64, random: &mut Random, case: &Case, capacity: usize, expecte
         words()
     );
     assert_eq!(lent.right_after(expected), Ok(()), "unpacked: {}", words());
+    if let Verdict::Reached { cycle } = expected.verdict {
+        let Answer { parts, start, .. } = *expected;
+        let times = image(&in_parts(case, parts), &start, cycle);
+        let judged = Ok(());
+        let run = Run { judged, times };
+        let ran = archive::run_parts_entries(n, &entries, &start, cycle);
+        assert_eq!(ran, Ok(RunInParts { run, parts }), "run: {}", words());
+    }
+}
+
+/// The parts of a second in which starts are looked for: in all that are tried
+/// where a bound is strict, else in seconds and in (n + 1)ths.
+fn parts_looked_at(case: &Case) -> Vec<usize> {
+    match parts_of(case) {
+        1 => vec![1, case.n + 1],
+        _ => tried_parts(case.n).collect(),
+    }
+}
+
+/// How far a box goes, in parts of a second.
+fn radius(n: usize, parts: usize) -> i64 {
+    let second = parts as i64;
+    match parts {
+        1 => [0, 12, 4, 2, 1, 0, 0, 0][n],
+        _ => [0, 6 * second, 2 * second, second / 2 + 1, 1, 1, 0, 0][n],
+    }
+}
+
+/// The hidden start in other parts of a second, or the last ones before it.
+fn near_in(trial: &Trial, parts: usize) -> Times {
+    let own = trial.parts as i64;
+    trial.near.map(|time| (time * parts as i64).div_euclid(own))
 }
 
 /// Brute search 1: a reached verdict does what it says, and no start of a box
-/// around the clock's zero or around the hidden start contradicts a verdict.
+/// around the clock's zero or around the hidden start contradicts a verdict, in
+/// whatever parts of a second.
 fn enumerate(seed: u64, trial: &Trial, capacity: usize, answer: &Answer) {
     let case = &trial.case;
-    let words = || format!("{answer:?}, {}", named(seed, &case.pack(), capacity));
+    let words = || format!("{answer:?}, {}", named_unpacked(seed, case, capacity));
     if let Verdict::Reached { cycle } = answer.verdict {
-        assert!(leads(case, &answer.start, cycle), "{}", words());
+        let scaled = in_parts(case, answer.parts);
+        assert!(leads(&scaled, &answer.start, cycle), "{}", words());
     }
     let limit = unmet_up_to(&answer.verdict);
-    let radius = [0, 12, 4, 2, 1, 0, 0, 0][case.n];
-    for centre in [[0; 7], trial.near] {
-        let met = first_in_box(case, &centre, radius, limit);
-        assert_eq!(met, None, "met too early: {}", words());
+    for parts in parts_looked_at(case) {
+        let scaled = in_parts(case, parts);
+        for centre in [[0; 7], near_in(trial, parts)] {
+            let met = first_in_box(&scaled, &centre, radius(case.n, parts), limit);
+            assert_eq!(met, None, "met too early in {parts} parts: {}", words());
+        }
     }
 }
 
@@ -97,30 +147,40 @@ fn check(seed: u64, random: &mut Random, trial: &Trial, counts: &mut Counts) {
     }
 }
 
-fn worker(number: u64) -> Counts {
+fn worker(number: u64, cases: u64, draw: Draw) -> Counts {
     let mut counts = [0; 6];
-    for seed in (number..CASES).step_by(WORKERS as usize) {
+    for seed in (number..cases).step_by(WORKERS as usize) {
         let mut random = Random::new(seed);
-        let trial = trial(&mut random);
+        let trial = draw(&mut random);
         check(seed, &mut random, &trial, &mut counts);
     }
     counts
 }
 
-/// Tables without a blank: up to 823,543 selections.
-#[test]
-fn full_tables() {
+/// Tables without a blank: so many cases of so many departures.
+fn full(cases: &[(usize, u64)], draw: fn(&mut Random, usize) -> Trial) {
     let mut counts = [0; 6];
-    for (n, cases) in [(5, 60), (6, 6), (7, 1)] {
+    for &(n, cases) in cases {
         for seed in 8_000_000..8_000_000 + cases {
             let mut random = Random::new(seed);
-            let trial = dense_trial(&mut random, n);
+            let trial = draw(&mut random, n);
             check(seed, &mut random, &trial, &mut counts);
         }
     }
     println!("full tables: {counts:?}");
     let [at_once, _, clear, _, dry, full] = counts;
     assert!(at_once.min(clear).min(dry).min(full) >= 10, "{counts:?}");
+}
+
+/// Up to 823,543 selections.
+#[test]
+fn full_tables() {
+    full(&[(5, 60), (6, 6), (7, 1)], dense_trial);
+}
+
+#[test]
+fn full_tables_with_marks() {
+    full(&[(5, 60), (6, 6), (7, 1)], strict_dense_trial);
 }
 
 /// Lists of some hundred zones, with the largest capacity and close ones.
@@ -139,11 +199,11 @@ fn long_lists() {
     assert!(clear.min(full) >= 10, "{counts:?}");
 }
 
-#[test]
-fn archive_and_brute_searches_agree() {
+/// Compares random cases in several threads.
+fn agree(cases: u64, draw: Draw) {
     let counts = thread::scope(|scope| {
         let workers: Vec<_> = (0..WORKERS)
-            .map(|number| scope.spawn(move || worker(number)))
+            .map(|number| scope.spawn(move || worker(number, cases, draw)))
             .collect();
         let mut sum = [0; 6];
         for worker in workers {
@@ -161,4 +221,14 @@ fn archive_and_brute_searches_agree() {
         counts.iter().all(|&count| 100 * count >= total),
         "{counts:?} of {total}"
     );
+}
+
+#[test]
+fn archive_and_brute_searches_agree() {
+    agree(CASES, trial);
+}
+
+#[test]
+fn archive_and_brute_searches_agree_on_marks() {
+    agree(MARKED, strict_trial);
 }

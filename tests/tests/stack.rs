@@ -2,7 +2,7 @@
 
 use evidence::archive::{self, Change};
 use evidence::faults::workspace;
-use evidence::random::{dense_trial, Random};
+use evidence::random::{dense_trial, mark, Random};
 use std::thread;
 
 /// What the header names.
@@ -13,6 +13,8 @@ const STACK: usize = 384 * 1024;
 fn a_call_fits_the_stack_that_the_header_names() {
     let case = dense_trial(&mut Random::new(8_000_000), 7).case;
     let bytes = case.pack();
+    let mut marked = case;
+    mark(&mut Random::new(0), &mut marked);
     let mut work = vec![0; workspace(case.n, 128)];
     let call = move || {
         let packed = archive::verdict(&bytes, 128, &mut work);
@@ -31,6 +33,13 @@ fn a_call_fits_the_stack_that_the_header_names() {
             archive::commit(n, horizon, &mut entries, &change),
             Ok(Ok(()))
         );
+        archive::verdict_unpacked(&marked, 128, &mut work).expect("a known outcome");
+        let ran = archive::run_parts(&marked, &[0; 7], 64).expect("a known outcome");
+        assert_eq!((ran.run.judged, ran.parts), (Ok(()), 8));
+        let written = archive::write(&case, &mut [0; 426]);
+        assert_eq!(written, Ok(Ok(bytes.len())));
+        let read = archive::read(&bytes).expect("a known outcome");
+        assert_eq!(read.entries, case.entries());
         archive::run(&case, &[0; 7], 64).expect("a known outcome")
     };
     let thread = thread::Builder::new().stack_size(STACK);

@@ -2,11 +2,11 @@
 //! this package, both written from document 01.
 
 use evidence::archive::{self, Fault, Reading};
-use evidence::case::Case;
+use evidence::case::{less, most, Bound, Case};
 use evidence::checks::{named, named_unpacked, noisy};
 use evidence::damage;
 use evidence::faults;
-use evidence::random::{trial, Random};
+use evidence::random::{strict_trial, trial, Draw, Random};
 
 /// Bytes on each side of an output that no call may touch.
 const GUARD: usize = 9;
@@ -111,14 +111,13 @@ fn room() {
 
 /// Damaged cases, most of them with an output that is too short: the case's own
 /// fault is the one that is told, and the output stays as it was.
-#[test]
-fn damaged_cases() {
-    let mut counts = [0; 15];
+fn compare_damaged(draw: Draw, numbers: &[usize]) {
+    let mut counts = [0; 17];
     for seed in 4_200_000..4_220_000 {
         let mut random = Random::new(seed);
-        let case = damage::unpacked(&mut random).case;
+        let case = damage::unpacked(&mut random, draw).case;
         let length = random.below(500);
-        let expected = match faults::of_case(&case) {
+        let expected = match faults::of_written(&case) {
             Err(fault) => Err(fault),
             Ok(()) if length < case.pack().len() => Err(Fault {
                 number: 14,
@@ -140,22 +139,52 @@ fn damaged_cases() {
         assert!(output.holds(&front), "other bytes: {}", words());
         counts[expected.map_or_else(|fault| fault.number, |_| 0)] += 1;
     }
-    println!("faults 0 to 14: {counts:?}");
-    for number in [0, 2, 3, 4, 5, 6, 14] {
+    println!("faults 0 to 16: {counts:?}");
+    for &number in numbers {
         assert!(counts[number] >= 40, "too few faults {number}: {counts:?}");
     }
 }
 
-/// What is done to a case of two departures, and the fault that it is, in the
-/// order in which faults are judged.
-const DAMAGES: [(fn(&mut Case), usize, usize); 7] = [
+#[test]
+fn damaged_cases() {
+    compare_damaged(trial, &[0, 2, 3, 4, 5, 6, 14]);
+}
+
+#[test]
+fn damaged_cases_with_marks() {
+    compare_damaged(strict_trial, &[2, 3, 4, 5, 6, 16]);
+}
+
+/// Gives a number to a bound, which keeps its mark.
+fn put(bound: &mut Option<Bound>, value: i64) {
+    let strict = bound.is_some_and(|bound| bound.strict);
+    *bound = Some(Bound { value, strict });
+}
+
+/// Makes a bound strict, whatever its number.
+fn mark(bound: &mut Option<Bound>) {
+    *bound = Some(less(bound.map_or(0, |bound| bound.value)));
+}
+
+/// What is done to a case of two departures, and the fault that it is.
+type Damage = (fn(&mut Case), usize, usize);
+
+/// In the order in which faults are judged.
+const DAMAGES: [Damage; 14] = [
     (|case| case.n = 8, 2, 0),
     (|case| case.horizon = 65, 3, 0),
     (|case| case.times[1] = Some(-86_401), 4, 1),
     (|case| case.times[2..4].fill(None), 5, 2),
-    (|case| case.start[0] = Some(1_000_001), 6, 0),
-    (|case| case.start[5] = Some(-1_000_001), 6, 5),
-    (|case| case.target[5] = Some(1_000_001), 6, 11),
+    (|case| put(&mut case.start[0], 1_000_001), 6, 0),
+    (|case| mark(&mut case.start[0]), 16, 0),
+    (|case| mark(&mut case.start[1]), 16, 1),
+    (|case| put(&mut case.start[5], -1_000_001), 6, 5),
+    (|case| mark(&mut case.start[5]), 16, 5),
+    (|case| put(&mut case.target[0], -1_000_001), 6, 6),
+    (|case| mark(&mut case.target[0]), 16, 6),
+    (|case| mark(&mut case.target[4]), 16, 10),
+    (|case| put(&mut case.target[5], 1_000_001), 6, 11),
+    (|case| mark(&mut case.target[5]), 16, 11),
 ];
 
 /// Each fault of a case alone and with each later one, with an output that is
@@ -179,6 +208,41 @@ fn pairs_of_faults() {
                 assert!(output.holds(&[]), "{length} lent, {case:?}");
             }
         }
+    }
+}
+
+/// Marks of times, of absent bounds and of bounds beyond n are not refused; the
+/// same marks on bounds that are there are.
+#[test]
+fn marks_that_do_not_count() {
+    for seed in 4_500_000..4_502_000 {
+        let mut random = Random::new(seed);
+        let case = trial(&mut random).case;
+        let bytes = case.pack();
+        let words = || named(seed, &bytes, 0);
+        let mut entries = noisy(&mut random, &trimmed(&case));
+        let bounds = case.n * (case.n + 1);
+        let counts = |place: usize| (49..161).contains(&place) && (place - 49) % 56 < bounds;
+        for place in 0..161 {
+            let present = counts(place) && entries.present[place] != 0;
+            entries.strict[place] = if present { 0 } else { 255 };
+        }
+        let mut output = Output::new(&mut random, bytes.len());
+        let written = archive::write_entries(case.n, case.horizon, &entries, output.part());
+        assert_eq!(written, Ok(Ok(bytes.len())), "{}", words());
+        assert!(output.holds(&bytes), "other bytes: {}", words());
+        let Some(first) = case.bounds().position(Option::is_some) else {
+            continue;
+        };
+        entries.strict = [255; 161];
+        let mut output = Output::new(&mut random, bytes.len());
+        let written = archive::write_entries(case.n, case.horizon, &entries, output.part());
+        let strict = Fault {
+            number: 16,
+            returned: first,
+        };
+        assert_eq!(written, Ok(Err(strict)), "{}", words());
+        assert!(output.holds(&[]), "other bytes: {}", words());
     }
 }
 
@@ -206,8 +270,8 @@ fn damaged_bytes() {
 fn longest() {
     let mut case = Case::empty(7, 64);
     case.times = [Some(-86_400); 49];
-    case.start = [Some(-1_000_000); 56];
-    case.target = [Some(1_000_000); 56];
+    case.start = [Some(most(-1_000_000)); 56];
+    case.target = [Some(most(1_000_000)); 56];
     let mut output = [0; 427];
     assert_eq!(archive::write(&case, &mut output), Ok(Ok(426)));
     assert_eq!(output[..426], case.pack()[..]);

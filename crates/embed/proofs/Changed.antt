@@ -1,4 +1,4 @@
--- One entry put into the two arrays of a case: the case with that time changed.
+-- One time put into the arrays of a case: the case with that time changed.
 use Prim.Native.Nat.{ℕ, zero, suc, _+_, _-_, _≤_, _<_}
 use native.Mathlib.Omega.{arith}
 use mathlib.Core.Path.{_≡_, refl, sym, ap, ap₂, _∙_}
@@ -19,7 +19,7 @@ use Rattle.model.specs.Changes.{timePlace, changed, commit}
 use Rattle.model.proofs.Changes.{no-change-fault, place-small, accepted-changes, refused-keeps}
 use Rattle.model.proofs.Entries.{length-tabulate}
 use Rattle.model.proofs.Tabulated.{tabulate-ext}
-use Rattle.embed.specs.Numbers.{startPlace, targetPlace, Handed, writtenNumbers, withCount, slotOf, slotAt, caseIn, flag}
+use Rattle.embed.specs.Numbers.{startPlace, targetPlace, Handed, writtenNumbers, withCount, slotOf, slotAt, limitAt, caseIn, flag}
 use Rattle.embed.specs.Numbers.{EntryPut, stored, CommitHanded}
 
 -- one place of a list of f 0, f 1, .. set
@@ -43,17 +43,17 @@ flag-back : (b : Bool) → not (eqb (cond b 1 0) 0) ≡ b
 flag-back true = refl
 flag-back false = refl
 
-slot-back : (e : Slot) → slotOf (flag e) (e .value .0) ≡ e
+slot-back : (e : Slot) → slotOf (flag (e .has)) (e .value .0) ≡ e
 slot-back e = ap (λ (b : Bool). record { has = b; value = e .value }) (flag-back (e .has))
 
 -- what is stored is there
 pub put : (k : ℕ) (e : Slot) (present : List ℕ) (values : List ℤ) → k < length present → k < length values
-    → EntryPut k e present values (set present k (flag e)) (set values k (e .value .0))
+    → EntryPut k e present values (set present k (flag (e .has))) (set values k (e .value .0))
 unfolding slotAt
 put k e present values l m = record {
   present-after = refl;
   values-after = refl;
-  there = rw (getD-set-same present k (flag e) 0 l, getD-set-same values k (e .value .0) (pos 0) m) (slot-back e);
+  there = rw (getD-set-same present k (flag (e .has)) 0 l, getD-set-same values k (e .value .0) (pos 0) m) (slot-back e);
 }
 
 module _ {k : ℕ} {e : Slot} {present : List ℕ} {values : List ℤ} {flags : List ℕ} {times : List ℤ} (p : EntryPut k e present values flags times) where
@@ -62,7 +62,7 @@ module _ {k : ℕ} {e : Slot} {present : List ℕ} {values : List ℤ} {flags : 
   unfolding slotAt
   others i apart =
       rw (p .present-after, p .values-after)
-      (ap₂ slotOf (getD-set-other present k i (flag e) 0 apart) (getD-set-other values k i (e .value .0) (pos 0) apart))
+      (ap₂ slotOf (getD-set-other present k i (flag (e .has)) 0 apart) (getD-set-other values k i (e .value .0) (pos 0) apart))
 
   -- the table's entries
   table-put : k < mostTimes → tabulate mostTimes 0 (slotAt flags times) ≡ set (tabulate mostTimes 0 (slotAt present values)) k e
@@ -70,26 +70,29 @@ module _ {k : ℕ} {e : Slot} {present : List ℕ} {values : List ℤ} {flags : 
       let from : 0 + k ≡ k = omega arith in
       set-tabulate mostTimes 0 k (slotAt present values) (slotAt flags times) l (λ i apart. others i (rw from at apart)) ∙ rw (from, p .there)
 
-  -- the entries from a later place on
-  pattern-put : (first : ℕ) → k < first → tabulate mostBounds first (slotAt flags times) ≡ tabulate mostBounds first (slotAt present values)
-  pattern-put first l = tabulate-ext mostBounds first _ _ (λ i from to. others i (λ e. omega arith))
+  module _ (strict : List ℕ) where
+    -- the bounds from a later place on
+    pattern-put : (first : ℕ) → k < first → tabulate mostBounds first (limitAt flags strict times) ≡ tabulate mostBounds first (limitAt present strict values)
+    unfolding limitAt
+    pattern-put first l = tabulate-ext mostBounds first _ _ (λ i from to. rw (others i (λ e. omega arith)))
 
-  -- the arrays hold the case with that time changed
-  pub case-put : (n h i j : ℕ) → k ≡ timePlace n i j → k < mostTimes → caseIn n h flags times ≡ changed (caseIn n h present values) i j e
-  unfolding caseIn changed
-  case-put n h i j at l =
-      let old = tabulate mostTimes 0 (slotAt present values) in
-      let long : k < length old = omega (arith, length-tabulate mostTimes 0 (slotAt present values)) in
-      rw (← at, table-put l, set-padded nothing mostBounds old k e long, pattern-put startPlace l, pattern-put targetPlace (omega arith))
+    -- the arrays hold the case with that time changed
+    pub case-put : (n h i j : ℕ) → k ≡ timePlace n i j → k < mostTimes
+        → caseIn n h flags strict times ≡ changed (caseIn n h present strict values) i j e
+    unfolding caseIn changed
+    case-put n h i j at l =
+        let old = tabulate mostTimes 0 (slotAt present values) in
+        let long : k < length old = omega (arith, length-tabulate mostTimes 0 (slotAt present values)) in
+        rw (← at, table-put l, set-padded nothing mostBounds old k e long, pattern-put startPlace l, pattern-put targetPlace (omega arith))
 
 -- ---- what a commit hands back, by its judgement
-module _ (n h : ℕ) (present : List ℕ) (values : List ℤ) (i j : ℕ) (e : Slot) where
+module _ (n h : ℕ) (present strict : List ℕ) (values : List ℤ) (i j : ℕ) (e : Slot) where
   -- the numbers that go with it
   abbrev told : ℕ → ℕ → ℕ → Type 0
-  told returned first second = Handed (writtenNumbers (withCount (commit (caseIn n h present values) i j e .judged) 0)) returned first second
+  told returned first second = Handed (writtenNumbers (withCount (commit (caseIn n h present strict values) i j e .judged) 0)) returned first second
 
   -- the place is in the table
-  pub in-table : commit (caseIn n h present values) i j e .judged ≡ judged.Accepted → (1 ≤ i) × (1 ≤ j) × (timePlace n i j < mostTimes)
+  pub in-table : commit (caseIn n h present strict values) i j e .judged ≡ judged.Accepted → (1 ≤ i) × (1 ≤ j) × (timePlace n i j < mostTimes)
   unfolding caseIn
   in-table ok =
       let clean = accepted-changes _ _ _ e ok .0 in
@@ -97,18 +100,18 @@ module _ (n h : ℕ) (present : List ℕ) (values : List ℤ) (i j : ℕ) (e : S
       (here .row-from, here .column-from, place-small _ _ _ clean)
 
   module _ {returned first second : ℕ} (t : told returned first second) where
-    pub put-handed : {flags : List ℕ} {times : List ℤ} → commit (caseIn n h present values) i j e .judged ≡ judged.Accepted
-        → EntryPut (timePlace n i j) e present values flags times → CommitHanded n h present values i j e returned first second flags times
+    pub put-handed : {flags : List ℕ} {times : List ℤ} → commit (caseIn n h present strict values) i j e .judged ≡ judged.Accepted
+        → EntryPut (timePlace n i j) e present values flags times → CommitHanded n h present strict values i j e returned first second flags times
     unfolding stored
     put-handed ok p = record {
       numbers = t;
       present-after = p .present-after ∙ rw ok;
       values-after = p .values-after ∙ rw ok;
-      case-after = case-put p n h i j refl (in-table ok .2) ∙ sym (accepted-changes _ _ _ e ok .2);
+      case-after = case-put p strict n h i j refl (in-table ok .2) ∙ sym (accepted-changes _ _ _ e ok .2);
     }
 
-    pub kept-handed : {f : Fault} → commit (caseIn n h present values) i j e .judged ≡ judged.Refused f
-        → CommitHanded n h present values i j e returned first second present values
+    pub kept-handed : {f : Fault} → commit (caseIn n h present strict values) i j e .judged ≡ judged.Refused f
+        → CommitHanded n h present strict values i j e returned first second present values
     unfolding stored
     kept-handed {f} is = record {
       numbers = t;

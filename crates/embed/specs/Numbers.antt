@@ -1,16 +1,16 @@
 -- Answers and unpacked cases as numbers and lent arrays.
 use Prim.Native.Nat.{ℕ, _+_}
 use mathlib.Core.Path.{_≡_}
-use mathlib.Core.Bool.{not, cond}
+use mathlib.Core.Bool.{Bool, not, cond}
 use mathlib.Core.List.{List, _++_, map}
 use lib.Dec.{eqb}
 use lib.IntN.{ℤ, pos}
-use lib.ListN.{length, getD, set, take}
+use lib.ListN.{length, getD, set, take, replicate}
 use Rattle.model.specs.Sizes.{mostTimes, mostBounds}
 use Rattle.ints.specs.declared.Seconds.{Seconds}
 use Rattle.model.specs.declared.Slot.{Slot}
+use Rattle.model.specs.declared.Limit.{Limit}
 use Rattle.model.specs.declared.Case.{Case}
-use Rattle.model.specs.declared.Verdict.{Verdict}
 use Rattle.model.specs.declared.Verdict.the-variants as verdict
 use Rattle.model.specs.declared.Answer.{Answer}
 use Rattle.model.specs.declared.Judged.{Judged}
@@ -19,18 +19,24 @@ use Rattle.model.specs.declared.Run.{Run}
 use Rattle.model.specs.declared.Written.{Written}
 use Rattle.model.specs.declared.Written.the-variants as written
 use Rattle.model.specs.Lists.{tabulate}
+use Rattle.model.specs.Search.{partsOf}
+use Rattle.model.specs.Faults.{unmarked, network}
 use Rattle.model.specs.Packed.{caseOf}
-use Rattle.model.specs.Answers.{seconds, cycleNumber, Numbers, numbersOf}
+use Rattle.model.specs.Answers.{seconds, cycleNumber, Numbers, numbersOf, runInParts}
 use Rattle.model.specs.Writing.{packedBytes, writeFault, told, outputAfter}
 use Rattle.model.specs.Changes.{timePlace, commit}
 
--- a run as an answer: its cycle is reached, with the times of that cycle
-abbrev pub runVerdict : Judged → ℕ → Verdict
-runVerdict (judged.Refused f) k = verdict.Refused f
-runVerdict judged.Accepted k = verdict.Reached (cycleNumber k)
+-- a run as an answer: cycle k is reached, with the times of that cycle in parts; 0 parts where it is refused
+abbrev pub judgedRun : Judged → ℕ → ℕ → List Seconds → Answer
+judgedRun (judged.Refused f) k parts times = record { verdict = verdict.Refused f; parts = 0; start = times }
+judgedRun judged.Accepted k parts times = record { verdict = verdict.Reached (cycleNumber k); parts = parts; start = times }
 
-abbrev pub runAnswer : Run → ℕ → Answer
-runAnswer r k = record { verdict = runVerdict (r .judged) k; start = r .times }
+abbrev pub runAnswer : Run → ℕ → ℕ → Answer
+runAnswer r k parts = judgedRun (r .judged) k parts (r .times)
+
+-- a run in the parts that a start of the case is in
+unfoldable pub runPartsAnswer : Case → List Seconds → ℕ → Answer
+runPartsAnswer c xs k = let parts = partsOf (network c) in runAnswer (runInParts parts c xs k) k parts
 
 -- times as plain numbers, and start times given so
 abbrev pub plainTimes : List Seconds → List ℤ
@@ -50,6 +56,11 @@ pub record Told (r : Answer) (returned first second : ℕ) (lent : List ℤ) : T
   pub numbers : Handed (numbersOf (r .verdict)) returned first second
   pub times : lent ≡ plainTimes (r .start)
 
+-- with the parts that the times are in
+pub record ToldInParts (r : Answer) (returned first second third : ℕ) (lent : List ℤ) : Type 0 where
+  pub told : Told r returned first second lent
+  pub parts : third ≡ r .parts
+
 -- what a writer answers: 4 and the number of bytes, or a refusal
 abbrev pub writtenNumbers : Written → Numbers
 writtenNumbers (written.Refused f) = numbersOf (verdict.Refused f)
@@ -68,6 +79,12 @@ slotOf has value = record { has = not (eqb has 0); value = seconds value }
 unfoldable pub slotAt : List ℕ → List ℤ → ℕ → Slot
 slotAt present values k = slotOf (getD present k 0) (getD values k (pos 0))
 
+-- with the mark of a third: it is strict where that is not 0
+unfoldable pub limitAt : List ℕ → List ℕ → List ℤ → ℕ → Limit
+limitAt present strict values k =
+    let e = slotAt present values k in
+    record { has = e .has; strict = not (eqb (getD strict k 0) 0); value = e .value }
+
 -- where the entries of a case stand: the table's from 0 on, then those of the start pattern, then those of the target pattern; and how many there are
 abbrev pub startPlace : ℕ
 startPlace = mostTimes
@@ -78,26 +95,35 @@ targetPlace = startPlace + mostBounds
 abbrev pub caseEntries : ℕ
 caseEntries = targetPlace + mostBounds
 
--- the case of two numbers and two lent arrays
-unfoldable pub caseIn : ℕ → ℕ → List ℕ → List ℤ → Case
-caseIn n h present values =
-    let entry = slotAt present values in
-    caseOf n h (tabulate mostTimes 0 entry) (tabulate mostBounds startPlace entry) (tabulate mostBounds targetPlace entry)
+-- the case of two numbers and three lent arrays; a time has no mark
+unfoldable pub caseIn : ℕ → ℕ → List ℕ → List ℕ → List ℤ → Case
+caseIn n h present strict values =
+    let bound = limitAt present strict values in
+    caseOf n h (tabulate mostTimes 0 (slotAt present values)) (tabulate mostBounds startPlace bound) (tabulate mostBounds targetPlace bound)
 
--- as which number an entry's presence is handed back
-abbrev pub flag : Slot → ℕ
-flag e = cond (e .has) 1 0
+-- no entry is marked
+abbrev pub noMarks : List ℕ
+noMarks = replicate caseEntries 0
 
--- entries handed back in two arrays
-pub record EntriesHanded (es : List Slot) (present : List ℕ) (values : List ℤ) : Type 0 where
-  pub presence : present ≡ map flag es
+-- as which number a presence or a mark is handed back
+abbrev pub flag : Bool → ℕ
+flag b = cond b 1 0
+
+-- the entries of a case in their places
+abbrev pub entriesOf : List Slot → List Limit → List Limit → List Limit
+entriesOf times start target = (map unmarked (take mostTimes times) ++ start) ++ target
+
+-- entries handed back in three arrays
+pub record EntriesHanded (es : List Limit) (present strict : List ℕ) (values : List ℤ) : Type 0 where
+  pub presence : present ≡ map (λ e. flag (e .has)) es
+  pub marks : strict ≡ map (λ e. flag (e .strict)) es
   pub numbers : values ≡ map (λ e. e .value .0) es
 
 -- a case handed back: its two numbers and its entries
-pub record CaseHanded (c : Case) (n horizon : ℕ) (present : List ℕ) (values : List ℤ) : Type 0 where
+pub record CaseHanded (c : Case) (n horizon : ℕ) (present strict : List ℕ) (values : List ℤ) : Type 0 where
   pub departures : n ≡ c .n
   pub cycles : horizon ≡ c .horizon .0
-  pub entries : EntriesHanded ((take mostTimes (c .times) ++ c .start) ++ c .target) present values
+  pub entries : EntriesHanded (entriesOf (c .times) (c .start) (c .target)) present strict values
 
 -- a case written: the numbers handed back, and the output afterwards
 pub record WrittenHanded (c : Case) (out : List ℕ) (returned first second : ℕ) (after : List ℕ) : Type 0 where
@@ -106,7 +132,7 @@ pub record WrittenHanded (c : Case) (out : List ℕ) (returned first second : �
 
 -- an entry put at place k of two arrays: what is stored, and what is there afterwards
 pub record EntryPut (k : ℕ) (e : Slot) (present : List ℕ) (values : List ℤ) (flags : List ℕ) (times : List ℤ) : Type 0 where
-  pub present-after : flags ≡ set present k (flag e)
+  pub present-after : flags ≡ set present k (flag (e .has))
   pub values-after : times ≡ set values k (e .value .0)
   pub there : slotAt flags times k ≡ e
 
@@ -115,10 +141,10 @@ unfoldable pub stored : {X : Type 0} → Judged → ℕ → X → List X → Lis
 stored judged.Accepted k x xs = set xs k x
 stored (judged.Refused f) k x xs = xs
 
--- a change committed to two arrays: the numbers handed back, the arrays afterwards, and the case that they then hold
-pub record CommitHanded (n h : ℕ) (present : List ℕ) (values : List ℤ) (row column : ℕ) (e : Slot)
+-- a change committed to two of three arrays: the numbers handed back, the arrays afterwards, and the case that all three then hold
+pub record CommitHanded (n h : ℕ) (present strict : List ℕ) (values : List ℤ) (row column : ℕ) (e : Slot)
     (returned first second : ℕ) (flags : List ℕ) (times : List ℤ) : Type 0 where
-  pub numbers : Handed (writtenNumbers (withCount (commit (caseIn n h present values) row column e .judged) 0)) returned first second
-  pub present-after : flags ≡ stored (commit (caseIn n h present values) row column e .judged) (timePlace n row column) (flag e) present
-  pub values-after : times ≡ stored (commit (caseIn n h present values) row column e .judged) (timePlace n row column) (e .value .0) values
-  pub case-after : caseIn n h flags times ≡ commit (caseIn n h present values) row column e .case
+  pub numbers : Handed (writtenNumbers (withCount (commit (caseIn n h present strict values) row column e .judged) 0)) returned first second
+  pub present-after : flags ≡ stored (commit (caseIn n h present strict values) row column e .judged) (timePlace n row column) (flag (e .has)) present
+  pub values-after : times ≡ stored (commit (caseIn n h present strict values) row column e .judged) (timePlace n row column) (e .value .0) values
+  pub case-after : caseIn n h flags strict times ≡ commit (caseIn n h present strict values) row column e .case

@@ -1,17 +1,17 @@
 // The library for C and Rust: verdicts, runs, packed cases written and read, on numbers and lent arrays. No function asks anything of its caller.
 ghost use mathlib.Core.Path.{_≡_};
-ghost use mathlib.Core.List.{_++_};
 ghost use Prim.Native.Nat.{_+_, _≤_, _<_};
-ghost use lib.ListN.{length, take};
+ghost use lib.ListN.{length};
 ghost use Rattle.model.specs.Sizes.{mostTimes, mostBounds};
 ghost use Rattle.model.specs.Lists.{padded, tabulate};
-ghost use Rattle.model.specs.Faults.{nothing};
+ghost use Rattle.model.specs.Faults.{nothing, unmarked};
 ghost use Rattle.model.specs.Packed.{parse};
 ghost use Rattle.model.specs.Answers.{answer, workspaceAfter, answerPacked, workspaceAfterPacked, unpacked, run};
 ghost use Rattle.model.specs.Changes.{preview, workspaceAfterPreview};
 ghost use Rattle.embed.specs.Numbers;
-ghost use Rattle.embed.specs.Numbers.{caseEntries, Handed, Told, writtenNumbers, withCount, runVerdict, runAnswer, plainTimes, startTimes};
-ghost use Rattle.embed.specs.Numbers.{slotOf, slotAt, caseIn, EntryPut, EntriesHanded, CaseHanded, WrittenHanded, CommitHanded};
+ghost use Rattle.embed.specs.Numbers.{caseEntries, Handed, Told, ToldInParts, writtenNumbers, withCount, plainTimes, startTimes};
+ghost use Rattle.embed.specs.Numbers.{runAnswer, runPartsAnswer, slotOf, slotAt, limitAt, caseIn, noMarks, entriesOf};
+ghost use Rattle.embed.specs.Numbers.{EntryPut, EntriesHanded, CaseHanded, WrittenHanded, CommitHanded};
 use ints::Cycle;
 use ints::Seconds;
 use ints::ZERO;
@@ -19,8 +19,11 @@ use model::Answer;
 use model::BOUNDS;
 use model::Case;
 use model::DEPARTURES;
+use model::FREE;
 use model::Judged;
+use model::Limit;
 use model::NOTHING;
+use model::Run;
 use model::Slot;
 use model::TIMES;
 use model::Verdict;
@@ -33,8 +36,15 @@ const TARGET: usize = START + BOUNDS;
 
 pub const ENTRIES: usize = TARGET + BOUNDS;
 
-// The entries of an unpacked case, 1 in present where one is there, else 0.
+// The entries of an unpacked case: 1 in present where one is there, and 1 in strict where it is marked so, else 0.
 struct Entries {
+    present: [u8; ENTRIES],
+    strict: [u8; ENTRIES],
+    values: [i64; ENTRIES],
+}
+
+// The two arrays of a case that a change of the table writes to.
+struct TableArrays {
     present: [u8; ENTRIES],
     values: [i64; ENTRIES],
 }
@@ -62,7 +72,7 @@ fn start_times(plain: [i64; DEPARTURES]) -> [Seconds; DEPARTURES]
     times
 }
 
-// Hands an answer back.
+// Hands an answer back, without the parts.
 fn tell(answer: Answer, fault: &mut usize, value: &mut usize, times: &mut [i64; DEPARTURES]) -> u32
     ensures { λ r. ⌜ Told answer r (now (fault .exit)) (now (value .exit)) (now (times .exit)) ⌝ }
 {
@@ -72,6 +82,20 @@ fn tell(answer: Answer, fault: &mut usize, value: &mut usize, times: &mut [i64; 
     *value = verdict.value();
     *times = plain_times(start);
     verdict.kind()
+}
+
+// Hands an answer back.
+fn tell_in_parts(
+    answer: Answer,
+    fault: &mut usize,
+    value: &mut usize,
+    parts: &mut usize,
+    times: &mut [i64; DEPARTURES],
+) -> u32
+    ensures { λ r. ⌜ ToldInParts answer r (now (fault .exit)) (now (value .exit)) (now (parts .exit)) (now (times .exit)) ⌝ }
+{
+    *parts = answer.parts;
+    tell(answer, fault, value, times)
 }
 
 // Hands back what a writer answers.
@@ -102,15 +126,15 @@ fn with_count(judged: Judged, count: usize) -> Written
     }
 }
 
-// 1 where an entry is there, else 0.
-fn flag(slot: Slot) -> u8
-    ensures { λ r. ⌜ r ≡ Numbers.flag slot ⌝ }
+// How a presence or a mark is handed back: 1 if it is so, else 0.
+fn flag(is: bool) -> u8
+    ensures { λ r. ⌜ r ≡ Numbers.flag is ⌝ }
 {
-    if slot.has { 1 } else { 0 }
+    if is { 1 } else { 0 }
 }
 
 // Two arrays with one entry put into them.
-fn with_entry(present: [u8; ENTRIES], values: [i64; ENTRIES], k: usize, slot: Slot) -> Entries
+fn with_entry(present: [u8; ENTRIES], values: [i64; ENTRIES], k: usize, slot: Slot) -> TableArrays
     requires { ⌜ k < caseEntries ⌝ }
     ensures { λ r. ⌜ EntryPut k slot present values (r .present) (r .values) ⌝ }
 {
@@ -118,42 +142,59 @@ fn with_entry(present: [u8; ENTRIES], values: [i64; ENTRIES], k: usize, slot: Sl
     let mut numbers = values;
     let value = slot.value;
     let number = value.0;
-    flags[k] = flag(slot);
+    flags[k] = flag(slot.has);
     numbers[k] = number;
-    Entries {
+    TableArrays {
         present: flags,
         values: numbers,
     }
 }
 
-// The entries of a case as two arrays.
-fn entries_of(times: [Slot; BOUNDS], start: [Slot; BOUNDS], target: [Slot; BOUNDS]) -> Entries
-    ensures { λ r. ⌜ EntriesHanded ((take mostTimes times ++ start) ++ target) (r .present) (r .values) ⌝ }
+// The entries of a case as three arrays.
+fn entries_of(times: [Slot; BOUNDS], start: [Limit; BOUNDS], target: [Limit; BOUNDS]) -> Entries
+    ensures { λ r. ⌜ EntriesHanded (entriesOf times start target) (r .present) (r .strict) (r .values) ⌝ }
 {
     let mut present = [0u8; ENTRIES];
+    let mut strict = [0u8; ENTRIES];
     let mut values = [0i64; ENTRIES];
     for k in 0..ENTRIES {
-        let slot = if k < START {
-            times[k]
+        let entry = if k < START {
+            packed::unmarked(times[k])
         } else if k < TARGET {
             start[k - START]
         } else {
             target[k - TARGET]
         };
-        let value = slot.value;
+        let value = entry.value;
         let number = value.0;
-        present[k] = flag(slot);
+        present[k] = flag(entry.has);
+        strict[k] = flag(entry.strict);
         values[k] = number;
     }
-    Entries { present, values }
+    Entries {
+        present,
+        strict,
+        values,
+    }
 }
 
-fn run_verdict(judged: Judged, cycle: Cycle) -> Verdict
-    ensures { λ r. ⌜ r ≡ runVerdict judged (cycle .0) ⌝ }
+// A run as an answer, in parts of which parts make a second.
+fn run_answer(run: Run, cycle: Cycle, parts: usize) -> Answer
+    ensures { λ r. ⌜ r ≡ runAnswer run (cycle .0) parts ⌝ }
 {
+    let judged = run.judged;
+    let start = run.times;
     match judged {
-        Judged::Refused(fault) => Verdict::Refused(fault),
-        Judged::Accepted => Verdict::Reached(cycle),
+        Judged::Refused(fault) => Answer {
+            verdict: Verdict::Refused(fault),
+            parts: 0,
+            start,
+        },
+        Judged::Accepted => Answer {
+            verdict: Verdict::Reached(cycle),
+            parts,
+            start,
+        },
     }
 }
 
@@ -173,30 +214,68 @@ fn slot_at(present: &[u8; ENTRIES], values: &[i64; ENTRIES], k: usize) -> Slot
     slot_of(present[k], values[k])
 }
 
-// The entries from first on, as many as count.
-fn part(
+fn limit_at(
     present: &[u8; ENTRIES],
+    strict: &[u8; ENTRIES],
     values: &[i64; ENTRIES],
-    first: usize,
-    count: usize,
-) -> [Slot; BOUNDS]
-    requires { ⌜ (first + count ≤ caseEntries) × (count ≤ mostBounds) ⌝ }
-    ensures { λ r. ⌜ r ≡ padded nothing mostBounds (tabulate count first (slotAt (now (present .entry)) (now (values .entry)))) ⌝ }
+    k: usize,
+) -> Limit
+    requires { ⌜ k < caseEntries ⌝ }
+    ensures { λ r. ⌜ r ≡ limitAt (now (present .entry)) (now (strict .entry)) (now (values .entry)) k ⌝ }
 {
-    let mut slots = [NOTHING; BOUNDS];
-    for k in 0..count {
-        let slot = slot_at(present, values, first + k);
-        slots[k] = slot;
+    let slot = slot_at(present, values, k);
+    let value = slot.value;
+    let mark = strict[k];
+    Limit {
+        has: slot.has,
+        strict: mark != 0,
+        value,
     }
-    slots
 }
 
-fn case_in(n: usize, horizon: usize, present: &[u8; ENTRIES], values: &[i64; ENTRIES]) -> Case
-    ensures { λ r. ⌜ r ≡ caseIn n horizon (now (present .entry)) (now (values .entry)) ⌝ }
+// The times of the table.
+fn table_in(present: &[u8; ENTRIES], values: &[i64; ENTRIES]) -> [Slot; BOUNDS]
+    ensures { λ r. ⌜ r ≡ padded nothing mostBounds (tabulate mostTimes 0 (slotAt (now (present .entry)) (now (values .entry)))) ⌝ }
 {
-    let times = part(present, values, 0, TIMES);
-    let start = part(present, values, START, BOUNDS);
-    let target = part(present, values, TARGET, BOUNDS);
+    let mut times = [NOTHING; BOUNDS];
+    for k in 0..TIMES {
+        let time = slot_at(present, values, k);
+        times[k] = time;
+    }
+    times
+}
+
+// The bounds of a pattern that stands from first on.
+fn pattern_in(
+    present: &[u8; ENTRIES],
+    strict: &[u8; ENTRIES],
+    values: &[i64; ENTRIES],
+    first: usize,
+) -> [Limit; BOUNDS]
+    requires { ⌜ first + mostBounds ≤ caseEntries ⌝ }
+    ensures { λ r. ⌜ r ≡ padded (unmarked nothing) mostBounds
+        (tabulate mostBounds first (limitAt (now (present .entry)) (now (strict .entry)) (now (values .entry)))) ⌝ }
+{
+    let mut bounds = [FREE; BOUNDS];
+    for k in 0..BOUNDS {
+        let bound = limit_at(present, strict, values, first + k);
+        bounds[k] = bound;
+    }
+    bounds
+}
+
+fn case_in(
+    n: usize,
+    horizon: usize,
+    present: &[u8; ENTRIES],
+    strict: &[u8; ENTRIES],
+    values: &[i64; ENTRIES],
+) -> Case
+    ensures { λ r. ⌜ r ≡ caseIn n horizon (now (present .entry)) (now (strict .entry)) (now (values .entry)) ⌝ }
+{
+    let times = table_in(present, values);
+    let start = pattern_in(present, strict, values, START);
+    let target = pattern_in(present, strict, values, TARGET);
     Case {
         n,
         horizon: Cycle(horizon),
@@ -214,14 +293,15 @@ pub extern "C" fn tramcheck_verdict(
     work: &mut [i32],
     fault: &mut usize,
     value: &mut usize,
+    parts: &mut usize,
     start: &mut [i64; DEPARTURES],
 ) -> u32
-    ensures { λ r. ⌜ Told (answerPacked (now (bytes .entry)) capacity (length (now (work .entry))))
-        r (now (fault .exit)) (now (value .exit)) (now (start .exit)) ⌝ }
+    ensures { λ r. ⌜ ToldInParts (answerPacked (now (bytes .entry)) capacity (length (now (work .entry))))
+        r (now (fault .exit)) (now (value .exit)) (now (parts .exit)) (now (start .exit)) ⌝ }
     ensures { λ _. ⌜ now (work .exit) ≡ workspaceAfterPacked (now (bytes .entry)) capacity (now (work .entry)) ⌝ }
 {
     let answer = verdict::verdict_packed(bytes, capacity, work);
-    tell(answer, fault, value, start)
+    tell_in_parts(answer, fault, value, parts, start)
 }
 
 // The verdict on an unpacked case.
@@ -230,21 +310,24 @@ pub extern "C" fn tramcheck_verdict_unpacked(
     n: usize,
     horizon: usize,
     present: &[u8; ENTRIES],
+    strict: &[u8; ENTRIES],
     values: &[i64; ENTRIES],
     capacity: usize,
     work: &mut [i32],
     fault: &mut usize,
     value: &mut usize,
+    parts: &mut usize,
     start: &mut [i64; DEPARTURES],
 ) -> u32
-    ensures { λ r. ⌜ Told (answer (caseIn n horizon (now (present .entry)) (now (values .entry))) capacity (length (now (work .entry))))
-        r (now (fault .exit)) (now (value .exit)) (now (start .exit)) ⌝ }
-    ensures { λ _. ⌜ now (work .exit) ≡ workspaceAfter (caseIn n horizon (now (present .entry)) (now (values .entry)))
+    ensures { λ r. ⌜ ToldInParts
+        (answer (caseIn n horizon (now (present .entry)) (now (strict .entry)) (now (values .entry))) capacity (length (now (work .entry))))
+        r (now (fault .exit)) (now (value .exit)) (now (parts .exit)) (now (start .exit)) ⌝ }
+    ensures { λ _. ⌜ now (work .exit) ≡ workspaceAfter (caseIn n horizon (now (present .entry)) (now (strict .entry)) (now (values .entry)))
         capacity (now (work .entry)) ⌝ }
 {
-    let case = case_in(n, horizon, present, values);
+    let case = case_in(n, horizon, present, strict, values);
     let answer = verdict::verdict(case, capacity, work);
-    tell(answer, fault, value, start)
+    tell_in_parts(answer, fault, value, parts, start)
 }
 
 // The times of a cycle of an unpacked case, from start times on.
@@ -259,16 +342,42 @@ pub extern "C" fn tramcheck_run(
     value: &mut usize,
     times: &mut [i64; DEPARTURES],
 ) -> u32
-    ensures { λ r. ⌜ Told (runAnswer (run (caseIn n 0 (now (present .entry)) (now (values .entry))) (startTimes (now (start .entry))) cycle) cycle)
+    ensures { λ r. ⌜ Told
+        (runAnswer (run (caseIn n 0 (now (present .entry)) noMarks (now (values .entry))) (startTimes (now (start .entry))) cycle) cycle 1)
         r (now (fault .exit)) (now (value .exit)) (now (times .exit)) ⌝ }
 {
-    let case = case_in(n, 0, present, values);
+    let strict = [0u8; ENTRIES];
+    let case = case_in(n, 0, present, &strict, values);
     let from = start_times(*start);
     let run = runs::run(case, from, Cycle(cycle));
-    let judged = run.judged;
-    let start = run.times;
-    let verdict = run_verdict(judged, Cycle(cycle));
-    tell(Answer { verdict, start }, fault, value, times)
+    let answer = run_answer(run, Cycle(cycle), 1);
+    tell(answer, fault, value, times)
+}
+
+// The same in the parts of a second that a start of the case is in: the start times, and those of the cycle.
+#[no_mangle]
+pub extern "C" fn tramcheck_run_parts(
+    n: usize,
+    present: &[u8; ENTRIES],
+    strict: &[u8; ENTRIES],
+    values: &[i64; ENTRIES],
+    start: &[i64; DEPARTURES],
+    cycle: usize,
+    fault: &mut usize,
+    value: &mut usize,
+    parts: &mut usize,
+    times: &mut [i64; DEPARTURES],
+) -> u32
+    ensures { λ r. ⌜ ToldInParts
+        (runPartsAnswer (caseIn n 0 (now (present .entry)) (now (strict .entry)) (now (values .entry))) (startTimes (now (start .entry))) cycle)
+        r (now (fault .exit)) (now (value .exit)) (now (parts .exit)) (now (times .exit)) ⌝ }
+{
+    let case = case_in(n, 0, present, strict, values);
+    let from = start_times(*start);
+    let run = runs::run_parts(case, from, Cycle(cycle));
+    let factor = judge::parts(case);
+    let answer = run_answer(run, Cycle(cycle), factor);
+    tell_in_parts(answer, fault, value, parts, times)
 }
 
 // The verdict on an unpacked case with one time replaced or blanked.
@@ -277,6 +386,7 @@ pub extern "C" fn tramcheck_preview(
     n: usize,
     horizon: usize,
     present: &[u8; ENTRIES],
+    strict: &[u8; ENTRIES],
     values: &[i64; ENTRIES],
     row: usize,
     column: usize,
@@ -286,17 +396,18 @@ pub extern "C" fn tramcheck_preview(
     work: &mut [i32],
     fault: &mut usize,
     value: &mut usize,
+    parts: &mut usize,
     start: &mut [i64; DEPARTURES],
 ) -> u32
-    ensures { λ r. ⌜ Told (preview (caseIn n horizon (now (present .entry)) (now (values .entry))) row column (slotOf has time)
-        capacity (length (now (work .entry)))) r (now (fault .exit)) (now (value .exit)) (now (start .exit)) ⌝ }
-    ensures { λ _. ⌜ now (work .exit) ≡ workspaceAfterPreview (caseIn n horizon (now (present .entry)) (now (values .entry)))
+    ensures { λ r. ⌜ ToldInParts (preview (caseIn n horizon (now (present .entry)) (now (strict .entry)) (now (values .entry))) row column (slotOf has time)
+        capacity (length (now (work .entry)))) r (now (fault .exit)) (now (value .exit)) (now (parts .exit)) (now (start .exit)) ⌝ }
+    ensures { λ _. ⌜ now (work .exit) ≡ workspaceAfterPreview (caseIn n horizon (now (present .entry)) (now (strict .entry)) (now (values .entry)))
         row column (slotOf has time) capacity (now (work .entry)) ⌝ }
 {
-    let case = case_in(n, horizon, present, values);
+    let case = case_in(n, horizon, present, strict, values);
     let slot = slot_of(has, time);
     let answer = preview::preview(case, row, column, slot, capacity, work);
-    tell(answer, fault, value, start)
+    tell_in_parts(answer, fault, value, parts, start)
 }
 
 // Writes an unpacked case in packed form to the front of out.
@@ -305,15 +416,16 @@ pub extern "C" fn tramcheck_write(
     n: usize,
     horizon: usize,
     present: &[u8; ENTRIES],
+    strict: &[u8; ENTRIES],
     values: &[i64; ENTRIES],
     out: &mut [u8],
     fault: &mut usize,
     value: &mut usize,
 ) -> u32
-    ensures { λ r. ⌜ WrittenHanded (caseIn n horizon (now (present .entry)) (now (values .entry))) (now (out .entry))
+    ensures { λ r. ⌜ WrittenHanded (caseIn n horizon (now (present .entry)) (now (strict .entry)) (now (values .entry))) (now (out .entry))
         r (now (fault .exit)) (now (value .exit)) (now (out .exit)) ⌝ }
 {
-    let case = case_in(n, horizon, present, values);
+    let case = case_in(n, horizon, present, strict, values);
     let answer = packer::write(case, out);
     tell_written(answer, fault, value)
 }
@@ -325,6 +437,7 @@ pub extern "C" fn tramcheck_read(
     n: &mut usize,
     horizon: &mut usize,
     present: &mut [u8; ENTRIES],
+    strict: &mut [u8; ENTRIES],
     values: &mut [i64; ENTRIES],
     fault: &mut usize,
     value: &mut usize,
@@ -332,7 +445,7 @@ pub extern "C" fn tramcheck_read(
     ensures { λ r. ⌜ Handed (writtenNumbers (withCount (unpacked (parse (now (bytes .entry))) .judged) (length (now (bytes .entry)))))
         r (now (fault .exit)) (now (value .exit)) ⌝ }
     ensures { λ _. ⌜ CaseHanded (unpacked (parse (now (bytes .entry))) .case)
-        (now (n .exit)) (now (horizon .exit)) (now (present .exit)) (now (values .exit)) ⌝ }
+        (now (n .exit)) (now (horizon .exit)) (now (present .exit)) (now (strict .exit)) (now (values .exit)) ⌝ }
 {
     let read = packed::read(bytes);
     let case = read.case;
@@ -345,6 +458,8 @@ pub extern "C" fn tramcheck_read(
     let entries = entries_of(times, start, target);
     let flags = entries.present;
     *present = flags;
+    let marks = entries.strict;
+    *strict = marks;
     let numbers = entries.values;
     *values = numbers;
     let judged = read.judged;
@@ -358,6 +473,7 @@ pub extern "C" fn tramcheck_commit(
     n: usize,
     horizon: usize,
     present: &mut [u8; ENTRIES],
+    strict: &[u8; ENTRIES],
     values: &mut [i64; ENTRIES],
     row: usize,
     column: usize,
@@ -366,19 +482,19 @@ pub extern "C" fn tramcheck_commit(
     fault: &mut usize,
     value: &mut usize,
 ) -> u32
-    ensures { λ r. ⌜ CommitHanded n horizon (now (present .entry)) (now (values .entry)) row column (slotOf has time)
+    ensures { λ r. ⌜ CommitHanded n horizon (now (present .entry)) (now (strict .entry)) (now (values .entry)) row column (slotOf has time)
         r (now (fault .exit)) (now (value .exit)) (now (present .exit)) (now (values .exit)) ⌝ }
 {
-    let case = case_in(n, horizon, present, values);
+    let case = case_in(n, horizon, present, strict, values);
     let slot = slot_of(has, time);
     let done = preview::commit(case, row, column, slot);
     let judged = done.judged;
     if let Judged::Accepted = judged {
         let k = (row - 1) * n + (column - 1);
-        let entries = with_entry(*present, *values, k, slot);
-        let flags = entries.present;
+        let changed = with_entry(*present, *values, k, slot);
+        let flags = changed.present;
         *present = flags;
-        let numbers = entries.values;
+        let numbers = changed.values;
         *values = numbers;
     }
     let answer = with_count(judged, 0);

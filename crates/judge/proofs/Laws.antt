@@ -4,89 +4,124 @@ use Prim.Native.Nat.{ℕ, suc, _+_, _-_, _*_, _≤_, _<_}
 use native.Mathlib.Nat.{add-zero, suc-mul}
 use native.Mathlib.Numerals.{add-one}
 use native.Mathlib.Omega.{arith}
+use borrow.Author.Tests.{le-ltb}
 use mathlib.Core.List.{List, [], _∷_, map}
 use mathlib.Core.Option.{Option, none, some}
-use mathlib.Core.Bool.{Bool, true, false, not, _||_, or-false, or-assoc}
+use mathlib.Core.Bool.{Bool, true, false, not, _&&_, _||_, cond, or-false, or-assoc}
 use lib.ListN.{length, take, drop, getD, drop-of-length-le}
-use lib.Seq.{drop-cons, drop-drop}
-use Rattle.model.proofs.Stored.{has-time}
+use lib.Seq.{drop-cons, drop-drop, length-take-le, getD-take}
 use Rattle.model.specs.declared.Slot.{Slot}
+use Rattle.model.specs.declared.Limit.{Limit}
 use Rattle.model.specs.declared.Case.{Case}
 use Rattle.model.specs.declared.Fault.{Fault}
 use Rattle.model.specs.declared.Fault.the-variants as fault
 use Rattle.model.specs.declared.Judged.{Judged}
 use Rattle.model.specs.declared.Judged.the-variants as judged
-use Rattle.model.specs.Sizes.{timeLimit}
+use Rattle.model.specs.Sizes.{mostDepartures, timeLimit, mostBounds}
 use Rattle.model.specs.Lists.{anyOf, when, orElse}
+use Rattle.model.specs.Bound as B
+use Rattle.model.specs.Bound.{upto}
 use Rattle.model.specs.Network.{regular}
-use Rattle.model.specs.Faults.{timeOf, beyond, entryFault, rowsFault, outside, tableFault, caseFault}
+use Rattle.model.specs.Search.{isStrict, someStrict, partsOf}
+use Rattle.model.specs.Faults.{timeOf, boundOf, network, beyond, over, entryFault, rowsFault, outside, tableFault, caseFault}
 use Rattle.model.specs.Conditions.{Departures}
 use Rattle.model.proofs.Limits.{no-fault, orElse-none}
-use Rattle.judge.specs.Judgement.{judgedBy}
+use Rattle.model.proofs.Places.{pattern-fits}
+use Rattle.judge.specs.Judgement.{judgedBy, startParts}
 
--- ---- a walk over n entries, of which the code reads entry j as `e j`: i were passed, and the first fault is that of the others
-pub record Passed (limit : ℕ) (f : ℕ → Fault) (p : ℕ) (es : List Slot) (n : ℕ) (e : ℕ → Slot) (i : ℕ) : Type 0 where
+-- ---- a walk over n entries, of which the code reads entry j as `e j`: i were passed
+pub record Walk {A : Type 0} (es : List A) (n : ℕ) (e : ℕ → A) (i : ℕ) : Type 0 where
   pub long : length es ≡ n
   pub reads : (j : ℕ) → j < n → drop j es ≡ e j ∷ drop (j + 1) es
   pub within : i ≤ n
-  pub rest : entryFault limit f p es ≡ entryFault limit f (p + i) (drop i es)
 
-pub passed-none : {limit : ℕ} {f : ℕ → Fault} {p : ℕ} {es : List Slot} {n : ℕ} {e : ℕ → Slot}
-    → (z : Slot) → length es ≡ n → ((j : ℕ) → j < n → getD es j z ≡ e j) → Passed limit f p es n e 0
-passed-none {es} z l at = record {
-  long = l;
-  reads = λ j h. let u : j < length es = omega arith in rw (add-one, drop-cons es j z) (ap (λ (x : Slot). x ∷ drop (suc j) es) (at j h));
-  within = omega arith;
-  rest = rw add-zero refl;
-}
+-- one of the entries, which are read as B, passes the test exactly if t, which says it of those passed, or one of the others does
+pub record SomeOf {A B : Type 0} (test : B → Bool) (read : A → B) (es : List A) (i : ℕ) (t : Bool) : Type 0 where
+  pub is : anyOf test (map read es) ≡ (t || anyOf test (map read (drop i es)))
 
--- the entries hold a time exactly if t, which says it of those passed, or the others do
-abbrev pub SomeTime : List Slot → ℕ → Bool → Type 0
-SomeTime es i t = regular (map timeOf es) ≡ (t || regular (map timeOf (drop i es)))
+-- the first fault is that of the others
+pub record Passed {A : Type 0} (judge : ℕ → A → Option Fault) (p : ℕ) (es : List A) (n : ℕ) (e : ℕ → A) (i : ℕ) : Type 0 where
+  pub walk : Walk es n e i
+  pub rest : entryFault judge p es ≡ entryFault judge (p + i) (drop i es)
 
-module _ {limit : ℕ} {f : ℕ → Fault} {p : ℕ} {es : List Slot} {n : ℕ} {e : ℕ → Slot} {i : ℕ} (r : Passed limit f p es n e i) where
+module _ {A : Type 0} {es : List A} {n : ℕ} {e : ℕ → A} where
+  pub walk-none : (z : A) → length es ≡ n → ((j : ℕ) → j < n → getD es j z ≡ e j) → Walk es n e 0
+  walk-none z l at = record {
+    long = l;
+    reads = λ j h. let u : j < length es = omega arith in rw (add-one, drop-cons es j z) (ap (λ (x : A). x ∷ drop (suc j) es) (at j h));
+    within = omega arith;
+  }
+
+  pub passed-none : {judge : ℕ → A → Option Fault} {p : ℕ} → Walk es n e 0 → Passed judge p es n e 0
+  passed-none w = record { walk = w; rest = rw add-zero refl }
+
+-- the first count entries of an array
+pub walk-array : {A : Type 0} (z : A) (count : ℕ) (xs : List A) → count ≤ length xs → Walk (take count xs) count (λ j. getD xs j z) 0
+walk-array z count xs h = walk-none z (length-take-le count xs h) (λ j l. getD-take count xs j z l)
+
+module _ {A : Type 0} {es : List A} {n : ℕ} {e : ℕ → A} {i : ℕ} (r : Walk es n e i) where
   -- a turn
   module _ (h : i < n) where
-    pub passed-more : beyond limit (e i) ≡ false → Passed limit f p es n e (i + 1)
-    unfolding entryFault
-    passed-more b =
-        let m : suc (p + i) ≡ p + (i + 1) = omega arith in
-        record { long = r .long; reads = r .reads; within = omega arith; rest = r .rest ∙ rw (r .reads i h) (simp (b, m)) }
+    pub walk-more : Walk es n e (i + 1)
+    walk-more = record { long = r .long; reads = r .reads; within = omega arith }
 
-    pub passed-fault : beyond limit (e i) ≡ true → entryFault limit f p es ≡ some (f (p + i))
-    unfolding entryFault
-    passed-fault b = r .rest ∙ rw (r .reads i h) (simp b)
-
-    pub passed-refused : beyond limit (e i) ≡ true → judged.Refused (f (p + i)) ≡ judgedBy (entryFault limit f p es)
-    unfolding judgedBy
-    passed-refused b = simp (passed-fault b)
-
-    pub times-more : (t : Bool) → SomeTime es i t → SomeTime es (i + 1) (t || e i .has)
-    unfolding regular anyOf
-    times-more t s = s ∙ rw (r .reads i h, or-assoc) (ap (λ (b : Bool). t || (b || regular (map timeOf (drop (i + 1) es)))) (has-time (e i)))
+    pub some-more : {B : Type 0} {test : B → Bool} {read : A → B} {t b : Bool}
+        → SomeOf test read es i t → test (read (e i)) ≡ b → SomeOf test read es (i + 1) (t || b)
+    unfolding anyOf
+    some-more {test} {read} {t} s g =
+        record { is = s .is ∙ rw (r .reads i h, or-assoc) (ap (λ (b : Bool). t || (b || anyOf test (map read (drop (i + 1) es)))) g) }
 
   -- the end
   module _ (h : n ≤ i) where
-    all : drop i es ≡ []
-    all = let l : length es ≤ i = omega (arith, r .long) in drop-of-length-le es l
+    pub walk-all : drop i es ≡ []
+    walk-all = let l : length es ≤ i = omega (arith, r .long) in drop-of-length-le es l
 
-    pub passed-all : entryFault limit f p es ≡ none
+    pub some-all : {B : Type 0} {test : B → Bool} {read : A → B} {t : Bool} → SomeOf test read es i t → anyOf test (map read es) ≡ t
+    unfolding anyOf
+    some-all {t} s = s .is ∙ rw walk-all (or-false t)
+
+module _ {A : Type 0} {judge : ℕ → A → Option Fault} {p : ℕ} {es : List A} {n : ℕ} {e : ℕ → A} {i : ℕ} (r : Passed judge p es n e i) where
+  -- a turn
+  module _ (h : i < n) where
+    pub passed-more : judge (p + i) (e i) ≡ none → Passed judge p es n e (i + 1)
     unfolding entryFault
-    passed-all = r .rest ∙ rw all refl
+    passed-more b =
+        let m : suc (p + i) ≡ p + (i + 1) = omega arith in
+        record { walk = walk-more (r .walk) h; rest = r .rest ∙ rw (r .walk .reads i h) (simp (b, m)) }
 
-    pub passed-accepted : judged.Accepted ≡ judgedBy (entryFault limit f p es)
+    pub passed-fault : {f : Fault} → judge (p + i) (e i) ≡ some f → entryFault judge p es ≡ some f
+    unfolding entryFault
+    passed-fault b = r .rest ∙ rw (r .walk .reads i h) (simp b)
+
+    pub passed-refused : {f : Fault} → judge (p + i) (e i) ≡ some f → judged.Refused f ≡ judgedBy (entryFault judge p es)
+    unfolding judgedBy
+    passed-refused b = simp (passed-fault b)
+
+  -- the end
+  module _ (h : n ≤ i) where
+    pub passed-all : entryFault judge p es ≡ none
+    unfolding entryFault
+    passed-all = r .rest ∙ rw (walk-all (r .walk) h) refl
+
+    pub passed-accepted : judged.Accepted ≡ judgedBy (entryFault judge p es)
     unfolding judgedBy
     passed-accepted = simp passed-all
 
-    pub times-all : (t : Bool) → SomeTime es i t → regular (map timeOf es) ≡ t
-    unfolding regular anyOf
-    times-all t s = s ∙ rw all (or-false t)
+-- an entry beyond its limit
+pub over-some : (limit : ℕ) (f : ℕ → Fault) (p : ℕ) (e : Slot) → beyond limit e ≡ true → over limit f p e ≡ some (f p)
+unfolding over
+over-some limit f p e h = rw h
+
+-- a bound that is strict
+pub strict-is : (e : Limit) → isStrict (boundOf e) ≡ (e .has && e .strict)
+unfolding isStrict boundOf
+strict-is e = elim (e .has) as (λ t. isStrict (cond t (upto (e .strict) (e .value .0)) B.Bound.none) ≡ (t && e .strict)) [ true ↦ refl | false ↦ refl ]
 
 -- ---- row r of n, and those after it
 module _ (n r : ℕ) (es : List Slot) where
   pub rows-turn : r < n → rowsFault n (n - r) (r * n) (drop (r * n) es) ≡
       let row = take n (drop (r * n) es) in
-      orElse (entryFault timeLimit fault.Time (r * n) row)
+      orElse (entryFault (over timeLimit fault.Time) (r * n) row)
       (orElse (when (not (regular (map timeOf row))) (fault.EmptyRow (r * n))) (rowsFault n (n - (r + 1)) ((r + 1) * n) (drop ((r + 1) * n) es)))
   unfolding rowsFault
   rows-turn h =
@@ -125,6 +160,11 @@ module _ {r : Judged} (o : Option Fault) (made : r ≡ judgedBy o) where
     pub first-accepted : r ≡ judged.Accepted → judgedBy p ≡ judgedBy (orElse o p)
     first-accepted e = simp (accepted e)
 
+-- ---- departures in their limits
+-- the bounds of a pattern are within the array
+pub pattern-size : {n : ℕ} → Departures n → n * (n + 1) ≤ mostBounds
+pattern-size {n} d = rw (add-one n) (pattern-fits d)
+
 -- a table without a fault has a number of departures in its limits, and so has a case
 pub table-departures : (c : Case) (low k : ℕ) → tableFault c low k ≡ none → Departures (c .n)
 unfolding tableFault outside
@@ -133,3 +173,18 @@ table-departures c low k h = let facts = simp no-fault at h in omega arith
 pub case-departures : (c : Case) → caseFault c ≡ none → Departures (c .n)
 unfolding caseFault
 case-departures c h = table-departures c 1 (c .horizon .0) (orElse-none _ _ .0 h .0)
+
+-- and its parts are those of its network
+pub parts-are : (c : Case) → Departures (c .n) → startParts c ≡ partsOf (network c)
+unfolding startParts outside
+parts-are c d = simp (le-ltb _ _ (d .some), le-ltb _ _ (d .few))
+
+-- a second has at most one part more than there can be departures
+pub parts-few : (c : Case) → startParts c ≤ suc mostDepartures
+unfolding startParts partsOf network outside
+parts-few c = go (outside 1 mostDepartures (c .n)) refl (someStrict (network c))
+  where
+    go : (t : Bool) → outside 1 mostDepartures (c .n) ≡ t → (s : Bool) → cond t 0 (cond s (suc (c .n)) 1) ≤ suc mostDepartures
+    go true e s = omega arith
+    go false e true = let facts = simp no-fault at e in omega arith
+    go false e false = omega arith

@@ -1,2 +1,2 @@
--- The judgement that a fault, or its absence, makes.
+-- What the judges answer, for every case.
 pub mod Judgement

@@ -1,14 +1,17 @@
-// Judges an unpacked case: the first fault of the case by itself, of a call for a verdict, and of a run.
+// Judges an unpacked case: the first fault of the case by itself, in the packed form, of a call for a verdict, and of a run. Also, the parts of its start.
 ghost use mathlib.Core.Path.{_≡_};
 ghost use mathlib.Core.List.{map};
 ghost use Prim.Native.Nat.{_≤_, _<_, _^_};
 ghost use lib.ListN.{take};
 ghost use Rattle.model.specs.declared.Fault.the-variants as fault;
-ghost use Rattle.model.specs.Sizes.{mostBounds, boundLimit, startLimit};
+ghost use Rattle.model.specs.Sizes.{mostBounds, startLimit};
+ghost use Rattle.model.specs.Lists.{anyOf, orElse};
+ghost use Rattle.model.specs.Search.{isStrict};
 ghost use Rattle.model.specs.Faults;
-ghost use Rattle.model.specs.Faults.{present, entryFault, rowsFault, tableFault, patternsFault, caseFault, roomFault, callFault, runFault};
+ghost use Rattle.model.specs.Faults.{boundOf, present, over, boundFault, entryFault, rowsFault, tableFault, patternsFault};
+ghost use Rattle.model.specs.Faults.{caseFault, formFault, roomFault, callFault, runFault};
 ghost use Rattle.model.specs.Conditions.{Departures};
-ghost use Rattle.judge.specs.Judgement.{judgedBy};
+ghost use Rattle.judge.specs.Judgement.{judgedBy, startParts};
 use ints::Cycle;
 use ints::Seconds;
 use model::BOUND_LIMIT;
@@ -18,6 +21,7 @@ use model::Case;
 use model::DEPARTURES;
 use model::Fault;
 use model::Judged;
+use model::Limit;
 use model::START_LIMIT;
 use model::Slot;
 use model::TIME_LIMIT;
@@ -64,15 +68,33 @@ fn rows_fault(times: [Slot; BOUNDS], n: usize) -> Judged
     judged
 }
 
-// Fault 6 of one pattern: its first count entries, numbered from offset on.
-fn bounds_fault(bounds: [Slot; BOUNDS], count: usize, offset: usize) -> Judged
+// Fault 6 of a bound, then 16 if it is strict where marks have no place.
+fn bound_fault(bound: Limit, place: usize, marks: bool) -> Judged
+    ensures { λ r. ⌜ r ≡ judgedBy (boundFault marks place bound) ⌝ }
+{
+    let value = bound.value;
+    let slot = Slot {
+        has: bound.has,
+        value,
+    };
+    if beyond(slot, BOUND_LIMIT) {
+        return Judged::Refused(Fault::Bound(place));
+    }
+    if !marks & (bound.has & bound.strict) {
+        return Judged::Refused(Fault::Form(place));
+    }
+    Judged::Accepted
+}
+
+// Faults 6 and 16 of one pattern: its first count bounds, numbered from offset on.
+fn bounds_fault(bounds: [Limit; BOUNDS], count: usize, offset: usize, marks: bool) -> Judged
     requires { ⌜ (count ≤ mostBounds) × (offset ≤ mostBounds) ⌝ }
-    ensures { λ r. ⌜ r ≡ judgedBy (entryFault boundLimit fault.Bound offset (take count bounds)) ⌝ }
+    ensures { λ r. ⌜ r ≡ judgedBy (entryFault (boundFault marks) offset (take count bounds)) ⌝ }
 {
     for i in 0..count {
-        let slot = bounds[i];
-        if beyond(slot, BOUND_LIMIT) {
-            return Judged::Refused(Fault::Bound(offset + i));
+        let bound = bounds[i];
+        if let Judged::Refused(f) = bound_fault(bound, offset + i, marks) {
+            return Judged::Refused(f);
         }
     }
     Judged::Accepted
@@ -81,7 +103,7 @@ fn bounds_fault(bounds: [Slot; BOUNDS], count: usize, offset: usize) -> Judged
 // Fault 13: the first n start times.
 fn starts_fault(start: [Seconds; DEPARTURES], n: usize) -> Judged
     requires { ⌜ Departures n ⌝ }
-    ensures { λ r. ⌜ r ≡ judgedBy (entryFault startLimit fault.StartTime 0 (map (λ x. present (x .0)) (take n start))) ⌝ }
+    ensures { λ r. ⌜ r ≡ judgedBy (entryFault (over startLimit fault.StartTime) 0 (map (λ x. present (x .0)) (take n start))) ⌝ }
 {
     for i in 0..n {
         let x = start[i];
@@ -107,19 +129,19 @@ fn table_fault(case: Case, low: usize, k: usize) -> Judged
     rows_fault(times, n)
 }
 
-// Fault 6: the start, then the target, whose entries are numbered after those of the start.
-fn patterns_fault(case: Case) -> Judged
+// Faults 6 and 16: the start, then the target, whose bounds are numbered after those of the start.
+fn patterns_fault(case: Case, marks: bool) -> Judged
     requires { ⌜ Departures (case .n) ⌝ }
-    ensures { λ r. ⌜ r ≡ judgedBy (patternsFault case) ⌝ }
+    ensures { λ r. ⌜ r ≡ judgedBy (patternsFault marks case) ⌝ }
 {
     let n = case.n;
     let size = n * (n + 1);
     let start = case.start;
     let target = case.target;
-    if let Judged::Refused(f) = bounds_fault(start, size, 0) {
+    if let Judged::Refused(f) = bounds_fault(start, size, 0, marks) {
         return Judged::Refused(f);
     }
-    bounds_fault(target, size, size)
+    bounds_fault(target, size, size, marks)
 }
 
 // Faults 9 and 10. The product is formed only where it is small.
@@ -136,15 +158,29 @@ fn room_fault(n: usize, capacity: usize, size: usize) -> Judged
     Judged::Accepted
 }
 
-// The first fault of a case by itself, 2 to 6.
-pub fn case_fault(case: Case) -> Judged
-    ensures { λ r. ⌜ r ≡ judgedBy (caseFault case) ⌝ }
+// Faults 2 to 6, with 16 where marks have no place.
+fn entries_fault(case: Case, marks: bool) -> Judged
+    ensures { λ r. ⌜ r ≡ judgedBy (orElse (tableFault case 1 (case .horizon .0)) (patternsFault marks case)) ⌝ }
 {
     let horizon = case.horizon;
     if let Judged::Refused(f) = table_fault(case, 1, horizon.0) {
         return Judged::Refused(f);
     }
-    patterns_fault(case)
+    patterns_fault(case, marks)
+}
+
+// The first fault of a case by itself, 2 to 6.
+pub fn case_fault(case: Case) -> Judged
+    ensures { λ r. ⌜ r ≡ judgedBy (caseFault case) ⌝ }
+{
+    entries_fault(case, true)
+}
+
+// The first fault of a case for document 01's packed form, 2 to 6 with 16.
+pub fn form_fault(case: Case) -> Judged
+    ensures { λ r. ⌜ r ≡ judgedBy (formFault case) ⌝ }
+{
+    entries_fault(case, false)
 }
 
 // The first fault of a call for a verdict, capacity being Z and size the length of the workspace.
@@ -167,4 +203,34 @@ pub fn run_fault(case: Case, start: [Seconds; DEPARTURES], cycle: Cycle) -> Judg
         return Judged::Refused(f);
     }
     starts_fault(start, n)
+}
+
+// One of the first count bounds is strict.
+fn some_strict(bounds: [Limit; BOUNDS], count: usize) -> bool
+    requires { ⌜ count ≤ mostBounds ⌝ }
+    ensures { λ r. ⌜ r ≡ anyOf isStrict (map boundOf (take count bounds)) ⌝ }
+{
+    let mut some = false;
+    for i in 0..count {
+        let bound = bounds[i];
+        some = some | (bound.has & bound.strict);
+    }
+    some
+}
+
+// The parts of a second that a start of the case is in: 0 where its number of departures is refused.
+pub fn parts(case: Case) -> usize
+    ensures { λ r. ⌜ r ≡ startParts case ⌝ }
+{
+    let n = case.n;
+    if outside(1, DEPARTURES, n) {
+        return 0;
+    }
+    let size = n * (n + 1);
+    let start = case.start;
+    let target = case.target;
+    if some_strict(start, size) | some_strict(target, size) {
+        return n + 1;
+    }
+    1
 }

@@ -4,12 +4,12 @@ use native.Mathlib.Omega.{arith}
 use native.Mathlib.Decide.{ℕ-discrete}
 use mathlib.Core.Path.{_≡_, refl}
 use mathlib.Core.Bool.{true, false}
-use mathlib.Core.List.{List, [], _∷_, _++_}
+use mathlib.Core.List.{List, [], _∷_, _++_, map}
 use mathlib.Core.Option.{some}
 use lib.IntN.{ℤ}
 use Rattle.ints.proofs.Integers.{impossible}
 use Rattle.model.specs.Matrix.{Matrix}
-use Rattle.model.specs.Network.{Time, blank, secs, time, isTime}
+use Rattle.model.specs.Network.{Time, blank, secs, scaleTime, time, isTime}
 use Rattle.model.specs.Search.{rowConstraints, rowsConstraints}
 use Rattle.model.specs.Conditions.{Column, Selection, choose, Chosen, image, sum, Before, Fits, Fitting}
 use Rattle.model.proofs.Zones.{closed, all-closed}
@@ -97,9 +97,10 @@ module _ {n : ℕ} {times zone : List ℤ} {part : Matrix} {cols : List ℕ} {i 
           from-one = omega arith;
           long = long-more cols s (b .long);
           columns = more-at (λ l u v. Chosen n a l u) cols cols s (b .long) (b .long) (b .columns) here;
-          imaged = λ x m.
-              let (k, h) = row-imaged n a d cols (b .closed-set) (b .columns) (b .from-one) c left x m in
-              more-at (λ l u v. sum n a x l u ≡ image n a x l) cols cols s (b .long) (b .long) (b .imaged x k) h;
+          imaged = λ parts p x m.
+              let t = map (scaleTime parts) a in
+              let (k, h) = row-imaged n a d cols (b .closed-set) (b .columns) (b .from-one) c left parts p x m in
+              more-at (λ l u v. sum n t x l u ≡ image n t x l) cols cols s (b .long) (b .long) (b .imaged parts p x k) h;
         }
 
     -- as the set of the next row

@@ -10,12 +10,16 @@ use lib.IntN.{ℤ}
 use lib.ListN.{length, drop}
 use Rattle.model.specs.Sizes.{zoneSize}
 use Rattle.model.specs.Matrix.{Matrix}
+use Rattle.model.specs.Pattern.{patternConstraints}
 use Rattle.model.specs.Search.{common, firstCommon}
 use Rattle.model.proofs.Listed.{at-tabulate}
 use Rattle.model.proofs.Tabulated.{from, from-first, from-next, from-end}
+use Rattle.model.proofs.Size.{small-mono}
+use Rattle.model.proofs.Fitted.{fitting-left}
 use Rattle.memory.specs.Numbers.{boundsIn}
 use Rattle.zones.specs.Conditions.{Left}
 use Rattle.zones.proofs.Leaving.{left-none, left-some}
+use Rattle.starts.specs.Conditions.{StartReady}
 use Rattle.lists.specs.Lists.{zoneAt, listIn, Joins, Meeting}
 
 module _ (n base count : ℕ) (work pattern : List ℤ) where
@@ -40,7 +44,7 @@ module _ {n base count : ℕ} {work pattern : List ℤ} where
   looking-done {k} g h = g .rest ∙ ap (firstCommon n (boundsIn pattern)) (from-end _ count k h)
 
   module _ {k : ℕ} (inside : k < count) where
-    module _ (m : Meeting n base count work pattern) where
+    module _ {parts : ℕ} (m : Meeting n parts base count work pattern) where
       -- there is a zone to load
       pub zone-place : base + k * zoneSize n + zoneSize n ≤ length work
       zone-place = omega (arith, mul-le-mul-right (zoneSize n) inside, suc-mul k (zoneSize n), m .long)
@@ -60,3 +64,17 @@ module _ {n base count : ℕ} {work pattern : List ℤ} where
       pub looking-found : b ≡ true → sought n base count work pattern ≡ some (boundsIn c)
       unfolding firstCommon
       looking-found some-left = g .rest ∙ rw (from-next (zoneAt (zoneSize n) (drop base work)) count k inside, ← is, left-some left some-left)
+
+      -- a start can be picked there
+      pub found-ready : {parts : ℕ} → Meeting n parts base count work pattern → length c ≡ zoneSize n → b ≡ true → StartReady n c parts
+      unfolding common
+      found-ready m long some-left =
+          let (e, in-parts) = m .startable .times (boundsIn c) (looking-found some-left) in
+          record {
+            source = record { departures = m .meets .limits .departures; size = long };
+            few-parts = m .startable .few;
+            small = λ i j hi hj. small-mono (omega arith)
+                (fitting-left (patternConstraints n (boundsIn pattern)) (zone-joins m is .meetable) (left-some left some-left) i j hi hj);
+            left = e;
+            some-left = in-parts;
+          }

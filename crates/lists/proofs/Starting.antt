@@ -10,6 +10,7 @@ use Rattle.model.specs.Sizes.{mostDepartures, zoneSize}
 use Rattle.model.specs.Lists.{anyOf}
 use Rattle.model.specs.Matrix.{Matrix, everything, tighten}
 use Rattle.model.specs.Pattern.{patternConstraints}
+use Rattle.model.specs.Network.{scaleTime}
 use Rattle.model.specs.Search.{selections, preimage, keep}
 use Rattle.model.specs.Conditions.{clock}
 use Rattle.model.proofs.Listed.{of-both}
@@ -49,7 +50,7 @@ module _ {n : ℕ} {times zone : List ℤ} (s : Sources n times (boundsIn zone �
       from-one = omega arith;
       long = refl;
       columns = λ l h. let e : l ≡ 0 = omega arith in rw e clock;
-      imaged = λ x m l h. let e : l ≡ 0 = omega arith in rw e (clock-imaged n (timesIn times) x);
+      imaged = λ parts p x m l h. let e : l ≡ 0 = omega arith in rw e (clock-imaged n (map (scaleTime parts) (timesIn times)) x);
     };
     fitting = λ rest q. let e : suc n - 1 ≡ n = omega arith in of-both (s .each) .0 rest (rw e at q);
   }

@@ -12,7 +12,7 @@ use Rattle.model.specs.Lists.{tabulate, Every}
 use Rattle.model.specs.Bound.{Bound}
 use Rattle.model.specs.Matrix.{Matrix, tighten}
 use Rattle.model.specs.Pattern.{patternConstraints}
-use Rattle.model.specs.Search.{keep, previous, pick}
+use Rattle.model.specs.Search.{keep, previous, firstCommon, wholes, startIn}
 use Rattle.model.specs.Answers.{allTimes}
 use Rattle.model.specs.Conditions.{Regular, Closed, Buildable, Meetable}
 use Rattle.memory.specs.Numbers.{boundsIn, timesIn, Limit}
@@ -95,12 +95,18 @@ pub record FirstList (n : ℕ) (pattern work work′ : List ℤ) (r : ℕ) : Typ
   pub few : r ≤ 1
   pub beyond : drop (zoneSize n) work′ ≡ drop (zoneSize n) work
 
+-- what the first zone of a list that meets the pattern has in common with it has times in so many parts
+pub record Startable (n parts : ℕ) (pattern : List ℤ) (zs : List Matrix) : Type 0 where
+  pub few : parts ≤ suc mostDepartures
+  pub times : (c : Matrix) → firstCommon n (boundsIn pattern) zs ≡ some c → (d : Matrix) × (wholes (suc n) parts c ≡ some d)
+
 -- a list of zones of the workspace, to be looked through
-pub record Meeting (n base count : ℕ) (work pattern : List ℤ) : Type 0 where
+pub record Meeting (n parts base count : ℕ) (work pattern : List ℤ) : Type 0 where
   pub meets : Meets n pattern (listIn (zoneSize n) count (drop base work))
+  pub startable : Startable n parts pattern (listIn (zoneSize n) count (drop base work))
   pub long : base + count * zoneSize n ≤ length work
 
--- what is found of a list: nothing, or the start picked in c
-unfoldable pub foundBy : ℕ → Option Matrix → Found
-foundBy n none = record { some = false; start = allTimes [] }
-foundBy n (some c) = record { some = true; start = allTimes (pick n c) }
+-- what is found of a list: nothing, or the start picked in c, in parts
+unfoldable pub foundBy : ℕ → ℕ → Option Matrix → Found
+foundBy n parts none = record { some = false; start = allTimes [] }
+foundBy n parts (some c) = record { some = true; start = allTimes (startIn n parts c) }

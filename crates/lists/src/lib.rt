@@ -17,7 +17,6 @@ ghost use Rattle.lists.specs.Inner.{PlacedAt, AddReady, parentIn, Column
 ghost use Rattle.lists.specs.Inner.{PutReady, PutLast, SelectReady, TakeReady, Selected, PullReady};
 use ints::Seconds;
 use ints::ZERO;
-use memory::Number;
 use memory::time_at;
 use memory::zone_size;
 use model::DEPARTURES;
@@ -38,7 +37,7 @@ pub struct Built {
     pub full: bool,
 }
 
-// The start picked in what the first zone of a list that meets a pattern has in common with it, if there is one.
+// The start, in parts, picked in what the first zone of a list that meets a pattern has in common with it, if there is one.
 pub struct Found {
     pub some: bool,
     pub start: [Seconds; DEPARTURES],
@@ -49,10 +48,7 @@ fn holds_time(times: &[i32], n: usize, i: usize, s: usize) -> bool
     requires { ⌜ TimeCell n (now times) i s ⌝ }
     ensures { λ r. ⌜ r ≡ isTime (time n (timesIn (now (times .entry))) i s) ⌝ }
 {
-    match time_at(times, n, i, s) {
-        Number::Blank => false,
-        Number::Secs(_) => true,
-    }
+    time_at(times, n, i, s).has
 }
 
 // The first column of row i from s on that holds a time, or n + 1.
@@ -375,10 +371,17 @@ pub fn first_list(work: &mut [i32], pattern: &[i32], n: usize) -> usize
 }
 
 // The first zone of the list at base that meets the pattern. What they have in common is tightened beside, since the zone is needed for the next list.
-pub fn first_common(work: &[i32], base: usize, count: usize, pattern: &[i32], n: usize) -> Found
-    requires { ⌜ Meeting n base count (now work) (now pattern) ⌝ }
+pub fn first_common(
+    work: &[i32],
+    base: usize,
+    count: usize,
+    pattern: &[i32],
+    n: usize,
+    parts: usize,
+) -> Found
+    requires { ⌜ Meeting n parts base count (now work) (now pattern) ⌝ }
     ensures { λ r. ⌜
-        r ≡ foundBy n (firstCommon n (boundsIn (now (pattern .entry))) (listIn (zoneSize n) count (drop base (now (work .entry)))))
+        r ≡ foundBy n parts (firstCommon n (boundsIn (now (pattern .entry))) (listIn (zoneSize n) count (drop base (now (work .entry)))))
         ⌝ }
 {
     let size = zone_size(n);
@@ -388,7 +391,7 @@ pub fn first_common(work: &[i32], base: usize, count: usize, pattern: &[i32], n:
         let to = from + size;
         places::store(&mut zone[..size], 0, &work[from..to], size);
         if zones::common(&mut zone[..size], pattern, n) {
-            let start = zones::pick(&zone[..size], n);
+            let start = starts::start(&zone[..size], n, parts);
             return Found { some: true, start };
         }
     }

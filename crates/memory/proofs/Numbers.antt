@@ -1,16 +1,16 @@
--- One number in memory: one number stands for none, any other for itself.
-use Prim.Native.Nat.{_≤_}
+-- One number in memory: one number stands for none, any other for a bound, or a time.
+use Prim.Native.Nat.{_≤_, _<_}
 use mathlib.Core.Path.{_≡_, refl, sym, ap, _∙_}
 use mathlib.Core.Bool.{Bool, true, false}
 use lib.IntN.{ℤ, pos, natAbs}
 use mir.Syntax.{w32, w64}
 use mir.Val.{SFits, ofZ, toZ}
 use mir.ValLaws.{toZ-ofZ}
-use Rattle.ints.proofs.Integers.{ints, range, fits, abs-ud, pos-ud}
-use Rattle.model.specs.Bound.{most, sameZ}
+use Rattle.ints.proofs.Integers.{up, dn, ints, range, fits, abs-ud, pos-ud}
+use Rattle.model.specs.Bound.{sameZ}
 use Rattle.model.specs.Network.{secs}
 use Rattle.model.proofs.Same.{sameZ-true, sameZ-refl}
-use Rattle.memory.specs.Numbers.{noneIn, boundIn, timeIn, Limit, InMemory, Widest}
+use Rattle.memory.specs.Numbers.{ofHalves, noneIn, boundIn, timeIn, InMemory, Widest}
 
 -- ---- the test for the number that stands for none
 module _ (z : ℤ) where
@@ -28,20 +28,20 @@ module _ (z : ℤ) where
   test-other ne = differs (λ e. ne (ap (ofZ w32) e))
 
   -- a stored number
-  module _ (h : natAbs z ≤ Limit) where
-    small-other : sameZ z (pos noneIn) ≡ false
-    small-other = differs (λ e. omega (ints, abs-ud z, pos-ud noneIn))
+  module _ (h : up z < noneIn) where
+    other : sameZ z (pos noneIn) ≡ false
+    other = differs (λ e. omega (ints, pos-ud noneIn))
 
-    pub bound-stored : boundIn z ≡ most z
+    pub bound-stored : boundIn z ≡ ofHalves z
     unfolding boundIn
-    bound-stored = rw small-other
+    bound-stored = rw other
 
     pub time-stored : timeIn z ≡ secs z
     unfolding timeIn
-    time-stored = rw small-other
+    time-stored = rw other
 
-    pub narrow : SFits w32 z
-    narrow = fits (omega (ints, abs-ud z))
+    pub narrow : dn z ≤ noneIn → SFits w32 z
+    narrow k = fits (omega ints)
 
   -- any number in memory
   pub small-read : SFits w32 z → natAbs z ≤ InMemory

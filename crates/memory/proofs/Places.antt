@@ -14,6 +14,7 @@ use Rattle.model.specs.Bound as B
 use Rattle.model.specs.Bound.{Bound}
 use Rattle.model.specs.Network.{blank}
 use Rattle.model.specs.Conditions.{Departures}
+use Rattle.model.specs.declared.Slot.{Slot}
 use Rattle.memory.specs.declared.Number.{Number}
 use Rattle.memory.specs.Numbers.{boundIn, boundsIn, timeIn, timesIn}
 use Rattle.memory.specs.Conditions.{BoundRead, TimeRead}
@@ -30,12 +31,12 @@ pub few-places : (m i j : ℕ) → m ≤ suc mostDepartures → i ≤ mostDepart
 few-places m i j h hi hj = omega (arith, in-rows m i j (suc mostDepartures) (omega arith) hj)
 
 -- ---- an element, and a store, of a list that a function is mapped over
-getD-in : {X Y : Type 0} (f : X → Y) (xs : List X) (k : ℕ) (x : X) (y : Y) → k < length xs → getD (map f xs) k y ≡ f (getD xs k x)
+pub getD-in : {X Y : Type 0} (f : X → Y) (xs : List X) (k : ℕ) (x : X) (y : Y) → k < length xs → getD (map f xs) k y ≡ f (getD xs k x)
 getD-in f [] k x y h = absurd (omega arith)
 getD-in f (u ∷ xs) zero x y h = refl
 getD-in f (u ∷ xs) (suc k) x y h = getD-in f xs k x y (omega arith)
 
-map-set : {X Y : Type 0} (f : X → Y) (xs : List X) (k : ℕ) (x : X) → map f (set xs k x) ≡ set (map f xs) k (f x)
+pub map-set : {X Y : Type 0} (f : X → Y) (xs : List X) (k : ℕ) (x : X) → map f (set xs k x) ≡ set (map f xs) k (f x)
 map-set f [] k x = refl
 map-set f (u ∷ xs) zero x = refl
 map-set f (u ∷ xs) (suc k) x = ap (_∷_ (f u)) (map-set f xs k x)
@@ -45,11 +46,11 @@ unfolding boundsIn
 getD-bounds z k h = getD-in boundIn z k (pos 0) B.Bound.none h
 
 -- ---- what is read at place k
-module _ (z : List ℤ) (k : ℕ) {r : Number} (h : k < length z) (f : SFits w32 (getD z k (pos 0))) where
-  pub bound-there : BoundRead (boundIn (toZ w32 (ofZ w32 (getD z k (pos 0))))) r → BoundRead (getD (boundsIn z) k B.Bound.none) r
+module _ (z : List ℤ) (k : ℕ) (h : k < length z) (f : SFits w32 (getD z k (pos 0))) where
+  pub bound-there : {r : Number} → BoundRead (boundIn (toZ w32 (ofZ w32 (getD z k (pos 0))))) r → BoundRead (getD (boundsIn z) k B.Bound.none) r
   bound-there q = rw (getD-bounds z k h, ← toZ-ofZ w32 _ f) q
 
-  pub time-there : TimeRead (timeIn (toZ w32 (ofZ w32 (getD z k (pos 0))))) r → TimeRead (getD (timesIn z) k blank) r
+  pub time-there : {r : Slot} → TimeRead (timeIn (toZ w32 (ofZ w32 (getD z k (pos 0))))) r → TimeRead (getD (timesIn z) k blank) r
   unfolding timesIn
   time-there q = rw (getD-in timeIn z k (pos 0) blank h, ← toZ-ofZ w32 _ f) q
 

@@ -1,17 +1,17 @@
 -- What is asked and promised of those who read and store numbers.
 use Prim.Native.Nat.{ℕ, suc, _+_, _*_, _≤_, _<_}
 use mathlib.Core.Path.{_≡_}
-use mathlib.Core.List.{List, map}
+use mathlib.Core.List.{List}
 use lib.IntN.{ℤ, natAbs}
-use lib.ListN.{length, take}
+use lib.ListN.{length}
 use Rattle.model.specs.declared.Slot.{Slot}
-use Rattle.model.specs.Sizes.{tableSize, patternSize, zoneSize, mostBounds, mostNumbers}
+use Rattle.model.specs.Sizes.{tableSize, patternSize, zoneSize, mostNumbers}
 use Rattle.model.specs.Bound.{Bound}
 use Rattle.model.specs.Network.{Time, secsOf}
-use Rattle.model.specs.Faults.{timeOf, boundOf}
+use Rattle.model.specs.Faults.{timeOf}
 use Rattle.model.specs.Conditions.{Departures, Small}
 use Rattle.memory.specs.declared.Number.{Number}
-use Rattle.memory.specs.Numbers.{boundIn, timeIn, boundsIn, timesIn, asBound, asTime, InMemory}
+use Rattle.memory.specs.Numbers.{asBound, InMemory}
 
 -- ---- a zone, the table and a pattern of n departures
 pub record ZoneIn (n : ℕ) (z : List ℤ) : Type 0 where
@@ -52,25 +52,15 @@ pub record PairCell (n : ℕ) (p : List ℤ) (i j : ℕ) : Type 0 where
   pub col : j < suc n
 
 -- ---- numbers that were read
-pub record BoundRead (b : Bound) (r : Number) : Type 0 where
+-- r stands for b, and is at most S in size
+pub record ReadWithin (S : ℕ) (b : Bound) (r : Number) : Type 0 where
   pub is : asBound r ≡ b
-  pub small : Small InMemory (asBound r)
+  pub small : Small S (asBound r)
 
-pub record TimeRead (t : Time) (r : Number) : Type 0 where
-  pub is : asTime r ≡ t
-  pub small : natAbs (secsOf (asTime r)) ≤ InMemory
+abbrev pub BoundRead : Bound → Number → Type 0
+BoundRead b r = ReadWithin InMemory b r
 
-pub record ReadAs (z : ℤ) (r : Number) : Type 0 where
-  pub bound : BoundRead (boundIn z) r
-  pub time : TimeRead (timeIn z) r
-
--- ---- entries of a case
-pub record NumberOf (e : Slot) (r : Number) : Type 0 where
-  pub bound : asBound r ≡ boundOf e
-  pub time : asTime r ≡ timeOf e
-
--- the first entries as numbers
-pub record NumbersIn (count : ℕ) (slots : List Slot) (numbers : List ℤ) : Type 0 where
-  pub bounds : boundsIn (take count numbers) ≡ map boundOf (take count slots)
-  pub times : timesIn (take count numbers) ≡ map timeOf (take count slots)
-  pub size : length numbers ≡ mostBounds
+pub record TimeRead (t : Time) (r : Slot) : Type 0 where
+  pub is : timeOf r ≡ t
+  pub value : r .value .0 ≡ secsOf t
+  pub small : natAbs (secsOf t) ≤ InMemory

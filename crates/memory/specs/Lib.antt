@@ -1,3 +1,4 @@
 -- Numbers in memory: what they stand for, and what is asked and promised of those who read and store them.
 pub mod Numbers
 pub mod Conditions
+pub mod Matrices

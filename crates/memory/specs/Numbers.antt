@@ -1,21 +1,26 @@
--- Zones, patterns and the table in memory: 32-bit numbers, of which one stands for no bound, and for a blank.
-use Prim.Native.Nat.{ℕ}
-use lib.IntN.{ℤ, pos}
+-- Zones, patterns and the table in memory: 32-bit numbers, of which one stands for no bound, and for a blank. Any other is a bound in halves, or a time.
+use Prim.Native.Nat.{ℕ, _+_, _/_, _%_}
+use lib.Dec.{eqb}
+use lib.IntN.{ℤ, pos, negsuc, negℤ}
 use mathlib.Core.List.{List, map}
 use mathlib.Core.Bool.{cond}
-use Rattle.model.specs.Sizes.{zoneLimit}
 use Rattle.model.specs.Bound as B
-use Rattle.model.specs.Bound.{Bound, most, sameZ}
+use Rattle.model.specs.Bound.{Bound, upto, sameZ}
 use Rattle.model.specs.Network.{Time, blank, secs}
 use Rattle.memory.specs.declared.Number.{Number}
-use Rattle.memory.specs.declared.Number.the-variants.{Blank, Secs}
+use Rattle.memory.specs.declared.Number.the-variants.{Blank, Upto}
 
--- the number that stands for none; any other stands for itself
+-- the bound with these halves: at most b for 2b, less than b for 2b - 1
+unfoldable pub ofHalves : ℤ → Bound
+ofHalves (pos n) = upto (eqb (n % 2) 1) (pos ((n + 1) / 2))
+ofHalves (negsuc n) = upto (eqb (n % 2) 0) (negℤ (pos ((n + 1) / 2)))
+
+-- the number that stands for none
 abbrev pub noneIn : ℕ
 noneIn = 2147483647
 
 unfoldable pub boundIn : ℤ → Bound
-boundIn z = cond (sameZ z (pos noneIn)) B.Bound.none (most z)
+boundIn z = cond (sameZ z (pos noneIn)) B.Bound.none (ofHalves z)
 
 unfoldable pub timeIn : ℤ → Time
 timeIn z = cond (sameZ z (pos noneIn)) blank (secs z)
@@ -28,21 +33,19 @@ boundsIn z = map boundIn z
 unfoldable pub timesIn : List ℤ → List Time
 timesIn a = map timeIn a
 
--- a number that was read, as a bound and as a time
+-- a bound that was read
 abbrev pub asBound : Number → Bound
 asBound Blank = B.Bound.none
-asBound (Secs c) = most (c .0)
+asBound (Upto c) = ofHalves (c .0)
 
-abbrev pub asTime : Number → Time
-asTime Blank = blank
-asTime (Secs c) = secs (c .0)
-
--- the most that a stored bound is in size, that a number in memory is, and the largest i64
+-- the most that a stored bound is in size: twice that is less than noneIn
 abbrev pub Limit : ℕ
-Limit = zoneLimit
+Limit = 1073741823
 
+-- the most that a number in memory is in size
 abbrev pub InMemory : ℕ
 InMemory = 2147483648
 
+-- the most that a bound is in size if its halves fit an i64
 abbrev pub Widest : ℕ
-Widest = 9223372036854775807
+Widest = 4611686018427387903

@@ -1,64 +1,109 @@
 // Numbers in memory: the bounds of zones and of patterns, and the times of the table.
 ghost use mathlib.Core.Path.{_≡_};
 ghost use mathlib.Core.Bool.{true};
+ghost use mathlib.Core.List.{map};
 ghost use Prim.Native.Nat.{suc, _+_, _*_, _≤_, _<_};
-ghost use lib.ListN.{set, take};
+ghost use lib.IntN.{pos, _-ℤ_, natAbs};
+ghost use lib.ListN.{length, set, take};
+ghost use lib.Signed.{leZ, ltZ};
 ghost use Rattle.model.specs.Sizes.{mostDepartures, boundLimit, tableSize, patternSize, zoneSize, mostBounds};
 ghost use Rattle.model.specs.Lists.{Every};
-ghost use Rattle.model.specs.Bound.{most, LeB, plus, tighter, negative};
-ghost use Rattle.model.specs.Matrix.{entry};
+ghost use Rattle.model.specs.Bound.{upto, most, LeB, plus, tighter, negative};
+ghost use Rattle.model.specs.Matrix.{entry, diagonal};
 ghost use Rattle.model.specs.Pattern.{pairBound, onlyDifferences};
 ghost use Rattle.model.specs.Network.{time};
 ghost use Rattle.model.specs.Search.{slack};
+ghost use Rattle.model.specs.Faults.{timeOf, boundOf, stated};
 ghost use Rattle.model.specs.Conditions.{Small, InLimit};
-ghost use Rattle.memory.specs.Numbers.{boundIn, timeIn, boundsIn, timesIn, asBound, asTime, Limit, Widest};
-ghost use Rattle.memory.specs.Conditions.{PatternIn, BoundRead, TimeRead, ReadAs, PlaceOf, ZoneCell, PairCell, TimeCell, NumberOf, NumbersIn};
+ghost use Rattle.memory.specs.Numbers.{ofHalves, boundIn, timeIn, boundsIn, timesIn, asBound, Limit, Widest};
+ghost use Rattle.memory.specs.Conditions.{PatternIn, BoundRead, TimeRead, PlaceOf, ZoneCell, PairCell, TimeCell};
 use ints::Seconds;
-use ints::ZERO;
 use model::BOUNDS;
+use model::NOTHING;
 use model::Slot;
 
 // Stands for no bound, and for a blank.
 pub const NONE: i32 = 2147483647;
 
-// What a number in memory stands for, as a bound or as a time.
+// A bound in halves: 2b stands for at most b, and 2b - 1 for less than b. The smaller number is the tighter bound.
+pub struct Halves(pub i64);
+
+impl Halves {
+    pub fn of(value: Seconds, strict: bool) -> Halves
+        requires { ⌜ natAbs (value .0) ≤ Widest ⌝ }
+        ensures { λ r. ⌜ ofHalves (r .0) ≡ upto strict (value .0) ⌝ }
+    {
+        if strict {
+            return Halves(value.0 + value.0 - 1);
+        }
+        Halves(value.0 + value.0)
+    }
+
+    // A sum is strict if one part is: that of two odd numbers is one more, and odd too.
+    pub fn plus(self, other: Halves) -> Halves
+        requires { ⌜ Small Widest (plus (ofHalves (self .0)) (ofHalves (other .0))) ⌝ }
+        ensures { λ r. ⌜ ofHalves (r .0) ≡ plus (ofHalves (self .0)) (ofHalves (other .0)) ⌝ }
+    {
+        Halves(self.0 + other.0 + (self.0 & other.0 & 1))
+    }
+
+    pub fn at_most(self, other: Halves) -> bool
+        ensures { λ r. ⌜ r ≡ leZ (self .0) (other .0) ⌝ }
+    {
+        self.0 <= other.0
+    }
+
+    pub fn negative(self) -> bool
+        ensures { λ r. ⌜ r ≡ ltZ (self .0) (pos 0) ⌝ }
+    {
+        self.0 < 0
+    }
+}
+
+// What a number in memory stands for as a bound.
 pub enum Number {
     Blank,
-    Secs(Seconds),
+    Upto(Halves),
 }
 
 impl Number {
-    // What a number stands for, be it a bound or a time.
-    fn read(raw: i32) -> Number
-        ensures { λ r. ⌜ ReadAs raw r ⌝ }
+    pub fn read(raw: i32) -> Number
+        ensures { λ r. ⌜ BoundRead (boundIn raw) r ⌝ }
     {
         if raw == NONE {
             return Number::Blank;
         }
-        Number::Secs(Seconds::of(raw))
+        Number::Upto(Halves(raw as i64))
     }
 
-    // As a bound.
-    fn bound(raw: i32) -> Number
-        ensures { λ r. ⌜ BoundRead (boundIn raw) r ⌝ }
+    // A bound of a case.
+    fn of(limit: model::Limit) -> Number
+        requires { ⌜ InLimit boundLimit (stated limit) ⌝ }
+        ensures { λ r. ⌜ asBound r ≡ boundOf limit ⌝ }
     {
-        Number::read(raw)
+        if limit.has {
+            let value = limit.value;
+            return Number::Upto(Halves::of(value, limit.strict));
+        }
+        Number::Blank
     }
 
-    // As a time.
-    fn time(raw: i32) -> Number
-        ensures { λ r. ⌜ TimeRead (timeIn raw) r ⌝ }
+    // At most a - b.
+    pub fn difference(a: Seconds, b: Seconds) -> Number
+        requires { ⌜ natAbs (a .0 -ℤ b .0) ≤ Widest ⌝ }
+        ensures { λ r. ⌜ asBound r ≡ most (a .0 -ℤ b .0) ⌝ }
     {
-        Number::read(raw)
+        Number::Upto(Halves::of(a.minus(b), false))
     }
 
-    // An entry of a case.
-    fn of(entry: Slot) -> Number
-        ensures { λ r. ⌜ NumberOf entry r ⌝ }
+    // The bound on x(j) - x(s) where the time t is added to x(j), c to x(s), and the second sum is not less.
+    pub fn slack(c: Seconds, t: Slot) -> Number
+        requires { ⌜ Small Widest (slack (c .0) (timeOf t)) ⌝ }
+        ensures { λ r. ⌜ asBound r ≡ slack (c .0) (timeOf t) ⌝ }
     {
-        if entry.has {
-            let value = entry.value;
-            return Number::Secs(value);
+        if t.has {
+            let value = t.value;
+            return Number::difference(c, value);
         }
         Number::Blank
     }
@@ -66,11 +111,11 @@ impl Number {
     // The number in memory that stands for this one.
     fn raw(self) -> i32
         requires { ⌜ Small Limit (asBound self) ⌝ }
-        ensures { λ r. ⌜ (boundIn r ≡ asBound self) × (timeIn r ≡ asTime self) ⌝ }
+        ensures { λ r. ⌜ boundIn r ≡ asBound self ⌝ }
     {
         match self {
             Number::Blank => NONE,
-            Number::Secs(c) => c.0 as i32,
+            Number::Upto(c) => c.0 as i32,
         }
     }
 
@@ -78,36 +123,25 @@ impl Number {
         requires { ⌜ Small Widest (plus (asBound self) (asBound other)) ⌝ }
         ensures { λ r. ⌜ asBound r ≡ plus (asBound self) (asBound other) ⌝ }
     {
-        let Number::Secs(a) = self else {
+        let Number::Upto(a) = self else {
             return Number::Blank;
         };
-        let Number::Secs(b) = other else {
+        let Number::Upto(b) = other else {
             return Number::Blank;
         };
-        Number::Secs(a.plus(b))
+        Number::Upto(a.plus(b))
     }
 
     pub fn tighter(self, other: Number) -> Number
         ensures { λ r. ⌜ asBound r ≡ tighter (asBound self) (asBound other) ⌝ }
     {
-        let Number::Secs(a) = self else {
+        let Number::Upto(a) = self else {
             return other;
         };
-        let Number::Secs(b) = other else {
+        let Number::Upto(b) = other else {
             return self;
         };
         if a.at_most(b) { self } else { other }
-    }
-
-    // The bound on x(j) - x(s) where this time is added to x(j), c to x(s), and the second sum is not less.
-    pub fn slack(self, c: Seconds) -> Number
-        requires { ⌜ Small Widest (slack (c .0) (asTime self)) ⌝ }
-        ensures { λ r. ⌜ asBound r ≡ slack (c .0) (asTime self) ⌝ }
-    {
-        let Number::Secs(t) = self else {
-            return Number::Blank;
-        };
-        Number::Secs(c.minus(t))
     }
 
     pub fn negative(self) -> bool
@@ -115,18 +149,54 @@ impl Number {
     {
         match self {
             Number::Blank => false,
-            Number::Secs(a) => a.less(ZERO),
+            Number::Upto(a) => a.negative(),
         }
     }
 
-    // True only where all that keeps to this bound is at most c.
-    pub fn implies(self, c: Seconds) -> bool
-        ensures { λ r. ⌜ (r ≡ true → LeB (asBound self) (most (c .0))) ⌝ }
+    // True only where all that keeps to this bound keeps to c.
+    pub fn implies(self, c: Halves) -> bool
+        ensures { λ r. ⌜ (r ≡ true → LeB (asBound self) (ofHalves (c .0))) ⌝ }
     {
         match self {
             Number::Blank => false,
-            Number::Secs(a) => a.at_most(c),
+            Number::Upto(a) => a.at_most(c),
         }
+    }
+}
+
+// What a number in memory stands for as a time.
+fn time_of(raw: i32) -> Slot
+    ensures { λ r. ⌜ TimeRead (timeIn raw) r ⌝ }
+{
+    if raw == NONE {
+        return NOTHING;
+    }
+    Slot {
+        has: true,
+        value: Seconds::of(raw),
+    }
+}
+
+// The number in memory that stands for a time.
+fn raw_time(entry: Slot) -> i32
+    requires { ⌜ InLimit boundLimit entry ⌝ }
+    ensures { λ r. ⌜ timeIn r ≡ timeOf entry ⌝ }
+{
+    if entry.has {
+        let value = entry.value;
+        return value.0 as i32;
+    }
+    NONE
+}
+
+// The bound on x(i) - x(j) where all times are allowed.
+pub fn diagonal(i: usize, j: usize) -> Number
+    ensures { λ r. ⌜ (asBound r ≡ diagonal i j) × Small Limit (asBound r) ⌝ }
+{
+    if i == j {
+        Number::Upto(Halves(0))
+    } else {
+        Number::Blank
     }
 }
 
@@ -161,7 +231,7 @@ pub fn zone_size(n: usize) -> usize
 }
 
 // The place of (i, j) in rows of m numbers.
-fn place(m: usize, i: usize, j: usize) -> usize
+pub fn place(m: usize, i: usize, j: usize) -> usize
     requires { ⌜ (m ≤ suc mostDepartures) × (i ≤ mostDepartures) × (j < m) ⌝ }
     ensures { λ r. ⌜ PlaceOf m i j r ⌝ }
 {
@@ -175,7 +245,7 @@ pub fn bound_at(zone: &[i32], n: usize, i: usize, j: usize) -> Number
 {
     let k = place(n + 1, i, j);
     let raw = zone[k];
-    Number::bound(raw)
+    Number::read(raw)
 }
 
 // Stores a bound on x(i) - x(j).
@@ -188,13 +258,13 @@ pub fn put(zone: &mut [i32], n: usize, i: usize, j: usize, b: Number)
 }
 
 // A(i, j) of the table.
-pub fn time_at(times: &[i32], n: usize, i: usize, j: usize) -> Number
+pub fn time_at(times: &[i32], n: usize, i: usize, j: usize) -> Slot
     requires { ⌜ TimeCell n (now times) i j ⌝ }
     ensures { λ r. ⌜ TimeRead (time n (timesIn (now (times .entry))) i j) r ⌝ }
 {
     let k = place(n, i - 1, j - 1);
     let raw = times[k];
-    Number::time(raw)
+    time_of(raw)
 }
 
 // The bound of a pattern on x(i) - x(j).
@@ -208,7 +278,7 @@ pub fn pair_bound(pattern: &[i32], n: usize, i: usize, j: usize) -> Number
     let column = if j < i { j } else { j - 1 };
     let k = place(n, i, column);
     let raw = pattern[k];
-    Number::bound(raw)
+    Number::read(raw)
 }
 
 // No bound of the pattern names the clock.
@@ -220,10 +290,10 @@ pub fn only_differences(pattern: &[i32], n: usize) -> bool
     while j <= n {
         let from = pair_bound(pattern, n, 0, j);
         let to = pair_bound(pattern, n, j, 0);
-        if let Number::Secs(_) = from {
+        if let Number::Upto(_) = from {
             return false;
         }
-        if let Number::Secs(_) = to {
+        if let Number::Upto(_) = to {
             return false;
         }
         j += 1;
@@ -231,15 +301,28 @@ pub fn only_differences(pattern: &[i32], n: usize) -> bool
     true
 }
 
-// The first count entries of a part of a case as numbers in memory; those beyond are free.
-pub fn numbers_in(slots: [Slot; BOUNDS], count: usize) -> [i32; BOUNDS]
+// The first count entries of the table of a case as numbers in memory; those beyond are free.
+pub fn times_in(slots: [Slot; BOUNDS], count: usize) -> [i32; BOUNDS]
     requires { ⌜ (count ≤ mostBounds) × Every (InLimit boundLimit) (take count slots) ⌝ }
-    ensures { λ r. ⌜ NumbersIn count slots r ⌝ }
+    ensures { λ r. ⌜ (timesIn (take count r) ≡ map timeOf (take count slots)) × (length r ≡ mostBounds) ⌝ }
 {
     let mut memory = [0i32; BOUNDS];
     for k in 0..count {
         let entry = slots[k];
-        memory[k] = Number::of(entry).raw();
+        memory[k] = raw_time(entry);
+    }
+    memory
+}
+
+// The first size bounds of a pattern of a case, likewise.
+pub fn bounds_in(limits: [model::Limit; BOUNDS], size: usize) -> [i32; BOUNDS]
+    requires { ⌜ (size ≤ mostBounds) × Every (λ e. InLimit boundLimit (stated e)) (take size limits) ⌝ }
+    ensures { λ r. ⌜ (boundsIn (take size r) ≡ map boundOf (take size limits)) × (length r ≡ mostBounds) ⌝ }
+{
+    let mut memory = [0i32; BOUNDS];
+    for k in 0..size {
+        let limit = limits[k];
+        memory[k] = Number::of(limit).raw();
     }
     memory
 }

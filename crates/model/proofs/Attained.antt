@@ -1,4 +1,4 @@
--- A closed matrix has members, and each of its bounds is met: the departures get their times one by one.
+-- A closed matrix without strict bounds has members, and each of its bounds is met: the departures get their times one by one.
 use Prim.Native.Nat.{ℕ, zero, suc, _+_, _-_, _<_}
 use native.Mathlib.Omega.{arith}
 use native.Mathlib.Nat.{zero-add}
@@ -14,7 +14,7 @@ use lib.Dec.{eqb, eqb→eq, eqb-refl, T}
 use Rattle.ints.proofs.Integers.{up, dn, ints, add-ud, neg-ud, sub-ud}
 use Rattle.model.specs.Bound as B
 use Rattle.model.specs.Bound.{Bound, most, LeB, any, Holds, plus}
-use Rattle.model.proofs.Bounds.{bounds, holds-none, holds-sum, across, over, between, leB-refl, leB-trans}
+use Rattle.model.proofs.Bounds.{bounds, Plain, unbounded, at-most, plus-plain, holds-none, holds-sum, across, over, between, leB-refl, leB-trans}
 use Rattle.model.proofs.Bounds.{plus-assoc, plus-left-comm, plus-comm, plus-none, tighter-either, tighter-left, tighter-right}
 use Rattle.model.specs.Lists.{tabulate, Every, done, both}
 use Rattle.model.specs.Matrix.{Matrix, entry, relaxed, Member}
@@ -22,7 +22,7 @@ use Rattle.model.specs.Search.{tightest}
 use Rattle.model.specs.Conditions.{Closed, howEarly, howLate, tightestOf}
 use Rattle.model.proofs.Listed.{at-tabulate, every-tabulate}
 use Rattle.model.proofs.Closed.{Within, kept, within-closed}
-use Rattle.model.proofs.Members.{within-sound}
+use Rattle.model.proofs.Members.{entry-relaxed, within-sound}
 
 -- what is at least as tight as the tightest of a list is so for each, and what holds of none and of each holds of the tightest
 tightest-each : {u : Bound} (bs : List Bound) → LeB u (tightest bs) → Every (LeB u) bs
@@ -64,6 +64,10 @@ update-other x t v s n = go (eqb s t) refl
     go true e = absurd (n (eqb→eq s t (rw e tt)))
     go false e = refl
 
+-- no bound is strict
+abbrev pub AllPlain : ℕ → Matrix → Type 0
+AllPlain m d = (i j : ℕ) → i < m → j < m → Plain (entry m d i j)
+
 module _ (m : ℕ) (d : Matrix) where
   abbrev D : ℕ → ℕ → Bound
   D = entry m d
@@ -76,7 +80,7 @@ module _ (m : ℕ) (d : Matrix) where
   abbrev pub Possible : ℕ → (ℕ → ℤ) → ℤ → Type 0
   Possible t x v = Holds v (howLate m d t x) × Holds (negℤ v) (howEarly m d t x)
 
-  module _ (cl : Closed m d) where
+  module _ (cl : Closed m d) (plain : AllPlain m d) where
     module _ (t : ℕ) (x : ℕ → ℤ) (ht : t < m) (ok : Upto t x) where
       room-at : (s s′ : ℕ) → s < t → s′ < t → LeB (most (pos 0)) (plus (plus (D t s) (most (x s))) (plus (D s′ t) (most (negℤ (x s′)))))
       unfolding plus up dn
@@ -94,8 +98,14 @@ module _ (m : ℕ) (d : Matrix) where
           tightestOf-either (λ u. LeB (most (pos 0)) (plus u (howEarly m d t x))) t _ any (λ s h.
           tightestOf-either (λ w. LeB (most (pos 0)) (plus (plus (D t s) (most (x s))) w)) t _ (rw plus-none any) (λ s′ h′. room-at s s′ h h′))
 
+      pub late-plain : Plain (howLate m d t x)
+      late-plain = tightestOf-either Plain t _ unbounded (λ s h. plus-plain (plain t s ht (omega arith)) at-most)
+
+      pub early-plain : Plain (howEarly m d t x)
+      early-plain = tightestOf-either Plain t _ unbounded (λ s h. plus-plain (plain s t (omega arith) ht) at-most)
+
       pub next-time : (v : ℤ) × Possible t x v
-      next-time = let (v, hu, hw) = between (howLate m d t x) (howEarly m d t x) room in (v, (hu, hw))
+      next-time = let (v, hu, hw) = between late-plain early-plain room in (v, (hu, hw))
 
       -- it is set: y is x below t, and has it at t
       pub upto-next : (y : ℕ → ℤ) → ((s : ℕ) → s < t → y s ≡ x s) → Possible t x (y t) → Upto (suc t) y
@@ -128,14 +138,20 @@ module _ (m : ℕ) (d : Matrix) where
     pub has-member : (x : ℕ → ℤ) × Member m d x
     has-member = let (x, mem, same) = set-all m 0 (λ s. pos 0) (omega arith) (λ i j hi hj. absurd (omega arith)) in (x, mem)
 
+-- a bound that is not strict, taken in
+relaxed-plain : (m : ℕ) (d : Matrix) → AllPlain m d → (a b : ℕ) (c : ℤ) → a < m → b < m → AllPlain m (relaxed m d a b (most c))
+relaxed-plain m d plain a b c ha hb i j hi hj =
+    rw (entry-relaxed m d a b (most c) i j hi hj)
+    (tighter-either Plain _ _ (plain i j hi hj) (plus-plain (plus-plain (plain i a hi ha) at-most) (plain b j hb hj)))
+
 -- a number that entry (i, j) allows, or any smaller, is reached by x(i) - x(j): constrain x(j) - x(i) by it
-module _ (m : ℕ) (d : Matrix) (cl : Closed m d) (i j : ℕ) (hi : i < m) (hj : j < m) where
+module _ (m : ℕ) (d : Matrix) (cl : Closed m d) (plain : AllPlain m d) (i j : ℕ) (hi : i < m) (hj : j < m) where
   pub reaches : (v : ℤ) → Holds v (entry m d i j) → (x : ℕ → ℤ) × Member m d x × v ≤ℤ (x i -ℤ x j)
   unfolding up dn
   reaches v h =
       let w : Within m d j i (most (negℤ v)) (some (relaxed m d j i (most (negℤ v))))
       = kept (holds-sum v (negℤ v) (pos 0) h (leB-refl _) (omega (ints, neg-ud v, add-ud v (negℤ v)))) in
-      let (x, mem) = has-member m _ (within-closed cl hj hi w) in
+      let (x, mem) = has-member m _ (within-closed cl hj hi w) (relaxed-plain m d plain j i (negℤ v) hj hi) in
       let (old, new) = within-sound hj hi x cl w mem in
       (x, old, omega (bounds, neg-ud v, sub-ud (x i) (x j), sub-ud (x j) (x i)))
 
@@ -145,7 +161,3 @@ module _ (m : ℕ) (d : Matrix) (cl : Closed m d) (i j : ℕ) (hi : i < m) (hj :
       let (x, mem, le) = reaches b (rw e (leB-refl (most b))) in
       let up-to : Holds (x i -ℤ x j) (most b) = rw e at (mem i j hi hj) in
       (x, mem, omega bounds)
-
-  -- and where there is none, every number is passed
-  pub passes : entry m d i j ≡ B.Bound.none → (v : ℤ) → (x : ℕ → ℤ) × Member m d x × v ≤ℤ (x i -ℤ x j)
-  passes e v = reaches v (rw e any)

@@ -3,24 +3,26 @@
 use Prim.Native.Nat.{ℕ, zero, suc, _+_, _-_, _≤_, _<_}
 use native.Mathlib.Omega.{arith}
 use native.Mathlib.Decide.{decLt}
-use mathlib.Core.Path.{_≡_, refl, sym, _∙_}
+use mathlib.Core.Path.{_≡_, refl, ap, ap₂, sym, _∙_}
 use mathlib.Core.Logic.{_⊎_, inl, inr, ⊎-elim}
 use mathlib.Core.Bool.{Bool, true, false, _&&_, _||_}
-use mathlib.Core.List.{List, [], _∷_}
-use lib.IntN.{ℤ, _+ℤ_, _-ℤ_}
+use mathlib.Core.List.{List, [], _∷_, map}
+use lib.IntN.{ℤ, pos, _+ℤ_, _-ℤ_, _*ℤ_}
 use lib.ListN.{length, length-map}
 use Rattle.ints.proofs.Integers.{impossible, ints, add-ud, sub-ud}
 use Rattle.model.specs.Lists.{tabulate, allOf, Every, done, both}
 use Rattle.model.specs.Bound as B
-use Rattle.model.specs.Bound.{Bound, most, any, Holds}
+use Rattle.model.specs.Bound.{Bound, upto, any, Holds}
 use Rattle.model.specs.Pattern.{pairBound, isNone, onlyDifferences, InPattern}
-use Rattle.model.specs.Network.{after, power, added, Network, clocked, cycles, Repeat}
-use Rattle.model.specs.Demands.{Met, NotBefore, Differences, LeastRepeat}
+use Rattle.model.specs.Network.{after, power, added, Network, scaleTime, inParts, clocked, cycles, Repeat}
+use Rattle.model.specs.Demands.{Witness, Met, NotBefore, Differences, LeastRepeat}
 use Rattle.model.specs.Conditions.{Regular}
 use Rattle.model.proofs.Same.{and-true}
 use Rattle.model.proofs.Listed.{at-tabulate}
 use Rattle.model.proofs.Cycles.{shift, clocked-shift, length-cycles, cycles-shift}
 use Rattle.model.proofs.Powers.{repeats-from}
+use Rattle.model.proofs.Parts.{regular-parts}
+use Rattle.model.proofs.PowersInParts.{power-parts, added-parts, differences-parts}
 
 -- ---- a pattern that bounds only differences
 allOf-true : {X : Type 0} (p : X → Bool) (xs : List X) → allOf p xs ≡ true → Every (λ x. p x ≡ true) xs
@@ -31,7 +33,7 @@ allOf-true p (x ∷ xs) e = let (h, t) = and-true (p x) (allOf p xs) e in both h
 none-is : (b : Bound) → isNone b ≡ true → b ≡ B.Bound.none
 unfolding isNone
 none-is B.Bound.none e = refl
-none-is (most b) e = impossible cc
+none-is (upto s b) e = impossible cc
 
 module _ (n : ℕ) (b : List Bound) (only : onlyDifferences n b ≡ true) where
   no-clock : (j : ℕ) → j < n → (pairBound n b 0 (suc j) ≡ B.Bound.none) × (pairBound n b (suc j) 0 ≡ B.Bound.none)
@@ -74,15 +76,15 @@ length-shift c xs = length-map xs (λ x. x +ℤ c)
 -- ---- cycles p + 1 + r and q + 1 + r, where power q + 1 is power p + 1 with c added
 module _ (w : Network) (reg : Regular (w .n) (w .times)) (p q : ℕ) (c : ℤ)
     (e : power (w .n) (w .times) q ≡ added c (power (w .n) (w .times) p)) (before : p < q) (differences : Differences w) where
-  -- a target met at the later is met at the earlier
-  earlier : (r : ℕ) → Met w (suc q + r) → Met w (suc p + r)
-  earlier r (xs, s) = ⊎-elim by-start by-target (or-true _ _ differences)
+  -- a target met at the later, from whole times, is met at the earlier
+  earlier-whole : (r : ℕ) {xs : List ℤ} → Witness w (suc q + r) xs → (ys : List ℤ) × Witness w (suc p + r) ys
+  earlier-whole r {xs} s = ⊎-elim by-start by-target (or-true _ _ differences)
     where
       same : cycles (w .n) (w .times) (suc q + r) xs ≡ shift c (cycles (w .n) (w .times) (suc p + r) xs)
       same = repeats-from (w .n) (w .times) reg p q c e xs r
 
       -- from the start with c added
-      by-start : onlyDifferences (w .n) (w .start) ≡ true → Met w (suc p + r)
+      by-start : onlyDifferences (w .n) (w .start) ≡ true → (ys : List ℤ) × Witness w (suc p + r) ys
       by-start only = (
         shift c xs,
         record {
@@ -93,7 +95,7 @@ module _ (w : Network) (reg : Regular (w .n) (w .times)) (p q : ℕ) (c : ℤ)
       )
 
       -- from the same start, since c does not matter to the target
-      by-target : onlyDifferences (w .n) (w .target) ≡ true → Met w (suc p + r)
+      by-target : onlyDifferences (w .n) (w .target) ≡ true → (ys : List ℤ) × Witness w (suc p + r) ys
       by-target only = (
         xs,
         record {
@@ -103,6 +105,26 @@ module _ (w : Network) (reg : Regular (w .n) (w .times)) (p q : ℕ) (c : ℤ)
               (apart-shift c _ (w .n) (length-cycles (w .n) (w .times) (suc p + r) xs (s .size))) (rw same at (s .arrived));
         },
       )
+
+-- the same in parts: powers and patterns are those of the network, in parts
+module _ (w : Network) (reg : Regular (w .n) (w .times)) (p q : ℕ) (c : ℤ)
+    (e : power (w .n) (w .times) q ≡ added c (power (w .n) (w .times) p)) (before : p < q) (differences : Differences w) where
+  module _ (parts : ℕ) where
+    again-in-parts : let a = map (scaleTime parts) (w .times) in power (w .n) a q ≡ added (c *ℤ pos parts) (power (w .n) a p)
+    again-in-parts =
+        power-parts parts (w .n) (w .times) q ∙ ap (map (scaleTime parts)) e ∙ added-parts parts c _
+        ∙ ap (added (c *ℤ pos parts)) (sym (power-parts parts (w .n) (w .times) p))
+
+    differences-in-parts : Differences (inParts parts w)
+    unfolding inParts
+    differences-in-parts = ap₂ _||_ (differences-parts parts (w .n) (w .start)) (differences-parts parts (w .n) (w .target)) ∙ differences
+
+  earlier : (r : ℕ) → Met w (suc q + r) → Met w (suc p + r)
+  unfolding inParts
+  earlier r (parts, some-parts, xs, s) =
+      let reg-parts = regular-parts parts (w .n) (w .times) reg in
+      let (ys, t) = earlier-whole (inParts parts w) reg-parts p q (c *ℤ pos parts) (again-in-parts parts) before (differences-in-parts parts) r s in
+      (parts, some-parts, ys, t)
 
   -- so, step by step, at one before cycle q + 1
   beyond-from : NotBefore w (suc q) → (f k : ℕ) → k < f → 1 ≤ k → Met w k → ⊥

@@ -1,56 +1,122 @@
 -- The laws of bounds: an ordered commutative monoid with the tighter of two, and what it is for a number to keep to one.
 -- The theory goes by these alone: another kind of bound needs these laws anew and nothing else.
 use Prim.Native.Nat.{_+_, _≤_}
-use mathlib.Core.Path.{_≡_, refl, ap, sym, _∙_}
+use mathlib.Core.Path.{_≡_, refl, ap, ap₂, sym, _∙_}
 use mathlib.Core.Logic.{_↔_}
-use mathlib.Core.Bool.{Bool, true, false, cond}
+use mathlib.Core.Bool.{Bool, true, false, cond, _||_}
 use lib.IntN.{ℤ, pos, negℤ, _+ℤ_, _-ℤ_}
-use lib.Signed.{leZ}
+use lib.Signed.{_≤ℤ_, _<ℤ_, leZ}
 use Rattle.model.specs.Bound as B
-use Rattle.model.specs.Bound.{Bound, most, LeB, any, fin, Holds, plus, tighter, negative}
-use Rattle.ints.proofs.Integers.{impossible, up, dn, ints, le-nat, nat-le, add-ud, sub-ud, neg-ud}
+use Rattle.model.specs.Bound.{Bound, upto, most, less, bit, halves, LeB, any, fin, Holds, plus, tighter, negative}
+use Rattle.ints.proofs.Integers.{impossible, up, dn, ints, add-ud, sub-ud, neg-ud, pos-ud}
 
--- omega's way in and out of the order at two numbers
-pub leB-nat : {a b : ℤ} → LeB (most a) (most b) → up a + dn b ≤ up b + dn a
-leB-nat (fin h) = le-nat h
+-- ---- marks, and bounds in halves, for omega
+pub bit-le : (s : Bool) → bit s ≤ 1
+unfolding bit
+bit-le true = omega ints
+bit-le false = omega ints
 
-pub nat-leB : {a b : ℤ} → up a + dn b ≤ up b + dn a → LeB (most a) (most b)
-nat-leB h = fin (nat-le h)
+pub record Or (s t : Bool) : Type 0 where
+  pub left : bit s ≤ bit (s || t)
+  pub right : bit t ≤ bit (s || t)
+  pub sum : bit (s || t) ≤ bit s + bit t
+  pub one : bit (s || t) ≤ 1
 
-pub ruleset bounds = (ints, leB-nat, nat-leB)
+pub or-bit : (s t : Bool) → Or s t
+unfolding bit
+or-bit true true = omega ints
+or-bit true false = omega ints
+or-bit false true = omega ints
+or-bit false false = omega ints
+
+pub record Halves (s : Bool) (b : ℤ) : Type 0 where
+  pub exact : up (halves s b) + (dn b + dn b + bit s) ≡ up b + up b + dn (halves s b)
+  pub mark : bit s ≤ 1
+
+pub halves-ud : (s : Bool) (b : ℤ) → Halves s b
+unfolding halves
+halves-ud s b = omega (ints, add-ud b b, pos-ud (bit s), sub-ud (b +ℤ b) (pos (bit s)), bit-le s)
+
+pub same-bit : (s t : Bool) → bit s ≡ bit t → s ≡ t
+unfolding bit
+same-bit true true e = refl
+same-bit false false e = refl
+same-bit true false e = absurd (omega ints)
+same-bit false true e = absurd (omega ints)
+
+-- the same in halves is the same
+pub same-halves : {s t : Bool} {b c : ℤ} → halves s b ≡ halves t c → upto s b ≡ upto t c
+same-halves {s} {t} {b} {c} e =
+    let z : b ≡ c = omega (ints, halves-ud s b, halves-ud t c) in
+    ap₂ upto (same-bit s t (omega (ints, halves-ud s b, halves-ud t c))) z
+
+-- omega's way in and out of the order at two finite bounds
+pub leB-nat : {s t : Bool} {a b : ℤ} → LeB (upto s a) (upto t b) → (up a + up a) + (dn b + dn b) + bit t ≤ (up b + up b) + (dn a + dn a) + bit s
+leB-nat {s} {t} {a} {b} (fin h) = omega (ints, halves-ud s a, halves-ud t b)
+
+pub nat-leB : {s t : Bool} {a b : ℤ} → (up a + up a) + (dn b + dn b) + bit t ≤ (up b + up b) + (dn a + dn a) + bit s → LeB (upto s a) (upto t b)
+nat-leB {s} {t} {a} {b} h = fin {s = s} {t = t} {b = a} {c = b} (omega (ints, halves-ud s a, halves-ud t b))
+
+pub bit-most : bit false ≡ 0
+unfolding bit
+bit-most = refl
+
+pub bit-less : bit true ≡ 1
+unfolding bit
+bit-less = refl
+
+pub ruleset bounds = (ints, leB-nat, nat-leB, bit-most, bit-less)
 
 pub leB-refl : (b : Bound) → LeB b b
 leB-refl B.Bound.none = any
-leB-refl (most b) = omega bounds
+leB-refl (upto s b) = omega bounds
 
 pub leB-trans : {b c d : Bound} → LeB b c → LeB c d → LeB b d
 leB-trans h any = any
-leB-trans (fin h) (fin k) = omega bounds
+leB-trans (fin {s} {b} h) (fin {t} {c} k) = fin {s = s} {t = t} {b = b} {c = c} (omega ints)
 
 pub leB-antisym : {b c : Bound} → LeB b c → LeB c b → b ≡ c
 leB-antisym any any = refl
-leB-antisym (fin {b} {c} h) (fin k) = ap most (omega bounds)
+leB-antisym (fin h) (fin k) = same-halves (omega ints)
+
+-- what it is to keep to a bound
+pub holds-most : (v b : ℤ) → Holds v (most b) ↔ v ≤ℤ b
+holds-most v b = (λ h. omega bounds, λ h. omega bounds)
+
+pub holds-less : (v b : ℤ) → Holds v (less b) ↔ v <ℤ b
+holds-less v b = (λ h. omega bounds, λ h. omega bounds)
 
 -- the sum: monotone, and a commutative monoid
 pub plus-mono : {b c d e : Bound} → LeB b c → LeB d e → LeB (plus b d) (plus c e)
 unfolding plus
 plus-mono any k = any
 plus-mono (fin h) any = any
-plus-mono (fin {b} {c} h) (fin {b = d} {c = e} k) = omega (bounds, add-ud b d, add-ud c e)
+plus-mono (fin {s} {t} {b} {c} h) (fin {s = p} {t = q} {b = d} {c = e} k) =
+    omega (bounds, add-ud b d, add-ud c e, halves-ud s b, halves-ud t c, halves-ud p d, halves-ud q e, or-bit s p, or-bit t q)
+
+or-assoc : (s t u : Bool) → ((s || t) || u) ≡ (s || (t || u))
+or-assoc true t u = refl
+or-assoc false t u = refl
+
+or-comm : (s t : Bool) → (s || t) ≡ (t || s)
+or-comm true true = refl
+or-comm true false = refl
+or-comm false true = refl
+or-comm false false = refl
 
 pub plus-assoc : (b c d : Bound) → plus (plus b c) d ≡ plus b (plus c d)
 unfolding plus
 plus-assoc B.Bound.none c d = refl
-plus-assoc (most b) B.Bound.none d = refl
-plus-assoc (most b) (most c) B.Bound.none = refl
-plus-assoc (most b) (most c) (most d) = ap most (omega (ints, add-ud b c, add-ud (b +ℤ c) d, add-ud c d, add-ud b (c +ℤ d)))
+plus-assoc (upto s b) B.Bound.none d = refl
+plus-assoc (upto s b) (upto t c) B.Bound.none = refl
+plus-assoc (upto s b) (upto t c) (upto u d) = ap₂ upto (or-assoc s t u) (omega (ints, add-ud b c, add-ud (b +ℤ c) d, add-ud c d, add-ud b (c +ℤ d)))
 
 pub plus-comm : (b c : Bound) → plus b c ≡ plus c b
 unfolding plus
 plus-comm B.Bound.none B.Bound.none = refl
-plus-comm B.Bound.none (most c) = refl
-plus-comm (most b) B.Bound.none = refl
-plus-comm (most b) (most c) = ap most (omega (ints, add-ud b c, add-ud c b))
+plus-comm B.Bound.none (upto t c) = refl
+plus-comm (upto s b) B.Bound.none = refl
+plus-comm (upto s b) (upto t c) = ap₂ upto (or-comm s t) (omega (ints, add-ud b c, add-ud c b))
 
 pub plus-left-comm : (b c d : Bound) → plus b (plus c d) ≡ plus c (plus b d)
 plus-left-comm b c d = sym (plus-assoc b c d) ∙ ap (λ (e : Bound). plus e d) (plus-comm b c) ∙ plus-assoc c b d
@@ -58,53 +124,71 @@ plus-left-comm b c d = sym (plus-assoc b c d) ∙ ap (λ (e : Bound). plus e d) 
 pub plus-none : (b : Bound) → plus b B.Bound.none ≡ B.Bound.none
 unfolding plus
 plus-none B.Bound.none = refl
-plus-none (most b) = refl
+plus-none (upto s b) = refl
 
 pub plus-zero : (b : Bound) → plus (most (pos 0)) b ≡ b
 unfolding plus up dn
 plus-zero B.Bound.none = refl
-plus-zero (most b) = ap most (omega (ints, add-ud (pos 0) b))
+plus-zero (upto s b) = ap (upto s) (omega (ints, add-ud (pos 0) b))
 
 -- the tighter of two is one of them, and at least as tight as both
 pub tighter-either : (P : Bound → Type 0) (b c : Bound) → P b → P c → P (tighter b c)
 unfolding tighter
 tighter-either P B.Bound.none c p q = q
-tighter-either P (most b) B.Bound.none p q = p
-tighter-either P (most b) (most c) p q = elim (leZ b c) as (λ t. P (cond t (most b) (most c))) [ true ↦ p | false ↦ q ]
+tighter-either P (upto s b) B.Bound.none p q = p
+tighter-either P (upto s b) (upto t c) p q = elim (leZ (halves s b) (halves t c)) as (λ r. P (cond r (upto s b) (upto t c))) [ true ↦ p | false ↦ q ]
 
 pub tighter-left : (b c : Bound) → LeB (tighter b c) b
 unfolding tighter
 tighter-left B.Bound.none c = any
-tighter-left (most b) B.Bound.none = leB-refl (most b)
-tighter-left (most b) (most c) = go (leZ b c) refl
+tighter-left (upto s b) B.Bound.none = leB-refl (upto s b)
+tighter-left (upto s b) (upto t c) = go (leZ (halves s b) (halves t c)) refl
   where
-    go : (t : Bool) → leZ b c ≡ t → LeB (cond t (most b) (most c)) (most b)
-    go true e = leB-refl (most b)
-    go false e = omega bounds
+    go : (r : Bool) → leZ (halves s b) (halves t c) ≡ r → LeB (cond r (upto s b) (upto t c)) (upto s b)
+    go true e = leB-refl (upto s b)
+    go false e = omega (bounds, halves-ud s b, halves-ud t c)
 
 pub tighter-right : (b c : Bound) → LeB (tighter b c) c
 unfolding tighter
 tighter-right B.Bound.none c = leB-refl c
-tighter-right (most b) B.Bound.none = any
-tighter-right (most b) (most c) = go (leZ b c) refl
+tighter-right (upto s b) B.Bound.none = any
+tighter-right (upto s b) (upto t c) = go (leZ (halves s b) (halves t c)) refl
   where
-    go : (t : Bool) → leZ b c ≡ t → LeB (cond t (most b) (most c)) (most c)
-    go true e = omega bounds
-    go false e = leB-refl (most c)
+    go : (r : Bool) → leZ (halves s b) (halves t c) ≡ r → LeB (cond r (upto s b) (upto t c)) (upto t c)
+    go true e = omega (bounds, halves-ud s b, halves-ud t c)
+    go false e = leB-refl (upto t c)
 
 pub tighter-of-le : {b c : Bound} → LeB b c → tighter b c ≡ b
 tighter-of-le {b} {c} h = leB-antisym (tighter-left b c) (tighter-either (LeB b) b c (leB-refl b) h)
+
+-- one that is at least as tight as both, and is one of them, is the tighter
+pub tighter-is : {b c d : Bound} → LeB d b → LeB d c → LeB (tighter b c) d → tighter b c ≡ d
+tighter-is {b} {c} {d} l r h = leB-antisym h (tighter-either (LeB d) b c l r)
 
 -- the test for a negative bound
 pub negative-false : (b : Bound) → negative b ≡ false → LeB (most (pos 0)) b
 unfolding negative
 negative-false B.Bound.none e = any
-negative-false (most b) e = omega bounds
+negative-false (upto s b) e = omega (bounds, halves-ud s b, pos-ud 0)
 
 pub negative-true : (b : Bound) → negative b ≡ true → LeB (most (pos 0)) b → ⊥
 unfolding negative
 negative-true B.Bound.none e h = impossible cc
-negative-true (most b) e h = omega bounds
+negative-true (upto s b) e h = omega (bounds, halves-ud s b, pos-ud 0)
+
+pub not-negative : {b : Bound} → LeB (most (pos 0)) b → negative b ≡ false
+not-negative {b} h = go (negative b) refl
+  where
+    go : (t : Bool) → negative b ≡ t → t ≡ false
+    go true e = absurd (negative-true b e h)
+    go false e = refl
+
+pub is-negative : {b : Bound} → (LeB (most (pos 0)) b → ⊥) → negative b ≡ true
+is-negative {b} h = go (negative b) refl
+  where
+    go : (t : Bool) → negative b ≡ t → t ≡ true
+    go true e = refl
+    go false e = absurd (h (negative-false b e))
 
 -- ---- numbers that keep to a bound
 
@@ -122,24 +206,33 @@ holds-sum u v w h k e = rw e (plus-mono h k)
 pub across : (v a : ℤ) (b : Bound) → Holds v (plus b (most a)) ↔ Holds (v -ℤ a) b
 unfolding plus
 across v a B.Bound.none = (λ h. any, λ h. any)
-across v a (most b) = (λ h. omega (bounds, add-ud b a, sub-ud v a), λ h. omega (bounds, add-ud b a, sub-ud v a))
+across v a (upto s b) = (λ h. omega (bounds, add-ud b a, sub-ud v a, or-bit s false), λ h. omega (bounds, add-ud b a, sub-ud v a, or-bit s false))
 
 pub over : (v a : ℤ) (b : Bound) → Holds (negℤ v) (plus b (most (negℤ a))) → Holds (a -ℤ v) b
 over v a b h =
     let e : negℤ v -ℤ negℤ a ≡ a -ℤ v = omega (ints, neg-ud v, neg-ud a, sub-ud (negℤ v) (negℤ a), sub-ud a v) in
     rw e at (across (negℤ v) (negℤ a) b .0 h)
 
--- a number between two bounds that leave room
-pub between : (u w : Bound) → LeB (most (pos 0)) (plus u w) → (v : ℤ) × Holds v u × Holds (negℤ v) w
-unfolding plus up dn
-between B.Bound.none B.Bound.none h = (pos 0, any, any)
-between B.Bound.none (most w) h = (negℤ w, any, omega (bounds, neg-ud w, neg-ud (negℤ w)))
-between (most u) B.Bound.none h = (u, leB-refl (most u), any)
-between (most u) (most w) h = (u, leB-refl (most u), omega (bounds, neg-ud u, add-ud u w))
+-- ---- bounds that are not strict: for these the numbers are enough
+-- the same bound without its mark
+unfoldable pub weak : Bound → Bound
+weak B.Bound.none = B.Bound.none
+weak (upto s b) = most b
 
--- if all that the first bound allows is allowed by the second, it is at least as tight
-pub leB-of-holds : (b c : Bound) → ((v : ℤ) → Holds v b → Holds v c) → LeB b c
-unfolding up dn
-leB-of-holds b B.Bound.none h = any
-leB-of-holds B.Bound.none (most c) h = absurd (let k = h (c +ℤ pos 1) any in omega (bounds, add-ud c (pos 1)))
-leB-of-holds (most b) (most c) h = h b (omega bounds)
+pub data Plain : Bound → Type 0 where
+  unbounded : Plain B.Bound.none
+  at-most : {b : ℤ} → Plain (most b)
+
+pub plus-plain : {b c : Bound} → Plain b → Plain c → Plain (plus b c)
+unfolding plus
+plus-plain unbounded q = unbounded
+plus-plain at-most unbounded = unbounded
+plus-plain at-most at-most = at-most
+
+-- a number between two bounds that leave room
+pub between : {u w : Bound} → Plain u → Plain w → LeB (most (pos 0)) (plus u w) → (v : ℤ) × Holds v u × Holds (negℤ v) w
+unfolding plus up dn
+between unbounded unbounded h = (pos 0, any, any)
+between unbounded (at-most {b = w}) h = (negℤ w, any, omega (bounds, neg-ud w, neg-ud (negℤ w)))
+between (at-most {b = u}) unbounded h = (u, leB-refl (most u), any)
+between (at-most {b = u}) (at-most {b = w}) h = (u, leB-refl (most u), omega (bounds, neg-ud u, add-ud u w))

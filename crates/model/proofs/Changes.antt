@@ -12,7 +12,6 @@ use lib.Arith.{digits-lt, digits-div, digits-mod}
 use lib.ListN.{length, take, drop, getD, set, length-take, length-drop}
 use lib.Seq.{getD-set-same, getD-set-other, take-set-le, take-set-lt, drop-drop, drop-set-lt, drop-set-add}
 use Rattle.model.specs.Sizes.{mostDepartures, timeLimit, tableSize, mostTimes}
-use Rattle.ints.proofs.Integers.{impossible}
 use Rattle.model.specs.declared.Slot.{Slot}
 use Rattle.model.specs.declared.Case.{Case}
 use Rattle.model.specs.declared.Fault.{Fault}
@@ -21,7 +20,7 @@ use Rattle.model.specs.declared.Judged.the-variants as judged
 use Rattle.model.specs.declared.Committed.{Committed}
 use Rattle.model.specs.Lists.{when, orElse, Every, done, both}
 use Rattle.model.specs.Network.{time, regular}
-use Rattle.model.specs.Faults.{timeOf, nothing, network, beyond, entryFault, rowsFault, outside, tableFault, patternsFault}
+use Rattle.model.specs.Faults.{timeOf, nothing, network, over, entryFault, rowsFault, outside, tableFault, patternsFault}
 use Rattle.model.specs.Faults.{caseFault, roomFault, callFault}
 use Rattle.model.specs.Changes.{timePlace, changed, changeFault, preview, workspaceAfterPreview, PreviewIs, commitFault, commit, PreviewDemands}
 use Rattle.model.specs.Conditions.{InLimit}
@@ -37,8 +36,8 @@ orElse-with-none (some x) = refl
 
 -- among entries within the limit
 entryFault-set : (limit : ℕ) (f : ℕ → Fault) (p : ℕ) {es : List Slot} (k : ℕ) (e : Slot) → Every (InLimit limit) es → k < length es
-    → entryFault limit f p (set es k e) ≡ when (beyond limit e) (f (p + k))
-unfolding entryFault
+    → entryFault (over limit f) p (set es k e) ≡ over limit f (p + k) e
+unfolding entryFault over
 entryFault-set limit f p k e done l = absurd (omega arith)
 entryFault-set limit f p zero e (both {xs} h hs) l =
     let here : p + 0 ≡ p = omega arith in
@@ -50,7 +49,7 @@ entryFault-set limit f p (suc k) e (both h hs) l =
 -- in row k, counted from 0, of rows within their limits
 rowsFault-set : {n r : ℕ} {es : List Slot} → RowsInLimit n r es → r * n ≤ length es → (p k j : ℕ) (e : Slot) → k < r → j < n
     → rowsFault n r p (set es (k * n + j) e) ≡
-    orElse (when (beyond timeLimit e) (fault.Time (p + (k * n + j))))
+    orElse (over timeLimit fault.Time (p + (k * n + j)) e)
     (when (not (regular (map timeOf (take n (drop (k * n) (set es (k * n + j) e)))))) (fault.EmptyRow (p + k * n)))
 unfolding rowsFault
 rowsFault-set no-row l p k j e h m = absurd (omega arith)
@@ -96,7 +95,7 @@ abbrev pub usualFault : Case → ℕ → ℕ → Slot → Option Fault
 usualFault c i j e =
     let first = (i - 1) * c .n in
     let row = map timeOf (take (c .n) (drop first (changed c i j e .times))) in
-    orElse (when (beyond timeLimit e) (fault.Time (timePlace (c .n) i j))) (when (not (regular row)) (fault.EmptyRow first))
+    orElse (over timeLimit fault.Time (timePlace (c .n) i j) e) (when (not (regular row)) (fault.EmptyRow first))
 
 -- c′ is c but for the time in row i and column j, which is that of e
 pub record OnlyThere (c : Case) (i j : ℕ) (e : Slot) (c′ : Case) : Type 0 where

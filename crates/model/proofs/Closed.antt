@@ -6,7 +6,7 @@ use mathlib.Core.Option.{Option, none, some}
 use lib.IntN.{pos}
 use lib.Dec.{eqb, eqb→eq, eqb-refl, T}
 use Rattle.model.specs.Bound as B
-use Rattle.model.specs.Bound.{Bound, most, LeB, any, plus, tighter, negative}
+use Rattle.model.specs.Bound.{Bound, upto, most, LeB, any, plus, tighter, negative}
 use Rattle.model.proofs.Bounds.{leB-refl, leB-trans, plus-mono, plus-assoc, plus-comm, plus-zero}
 use Rattle.model.proofs.Bounds.{tighter-either, tighter-of-le, tighter-left, tighter-right, negative-false, negative-true}
 use Rattle.model.specs.Matrix.{Matrix, entry, matrix, diagonal, everything, relaxed, within}
@@ -116,7 +116,7 @@ by-test m d a b c = go (negative (plus (entry m d b a) c)) refl
 pub within-is : (m : ℕ) (d : Matrix) (a b : ℕ) (limit : Bound) → Within m d a b limit (within m d a b limit)
 unfolding within
 within-is m d a b B.Bound.none = free
-within-is m d a b (most c) = by-test m d a b (most c)
+within-is m d a b (upto s c) = by-test m d a b (upto s c)
 
 pub within-closed : {m : ℕ} {d : Matrix} {a b : ℕ} {limit : Bound} {d′ : Matrix}
     → Closed m d → a < m → b < m → Within m d a b limit (some d′) → Closed m d′

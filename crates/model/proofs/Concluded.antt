@@ -11,18 +11,18 @@ use lib.ListN.{length}
 use Rattle.ints.proofs.Integers.{impossible}
 use Rattle.model.specs.Matrix.{Matrix}
 use Rattle.model.specs.Network.{Network}
-use Rattle.model.specs.Search.{lists, firstCommon, someLarge, Outcome, reached, clear, never, tableFull, boundTooLarge, pick}
+use Rattle.model.specs.Search.{lists, firstCommon, someLarge, Outcome, reached, clear, never, tableFull, boundTooLarge, partsOf, startIn}
 use Rattle.model.specs.Search.{Plan, plan, settled, outcome}
 use Rattle.model.specs.Demands.{Met, NotBefore, First, EndsEarly, EndsAt, Repeats, RunsDry, NeverHolds}
 use Rattle.model.specs.Conditions.{Regular}
 use Rattle.model.proofs.Repeats.{repeat-is, repeat-found}
 use Rattle.model.proofs.Dry.{dry-from, early-before}
-use Rattle.model.proofs.Searched.{met-by, unmet, Settled, full, large, met, unsettled, settled-is, Unended, Ending, stopped, dried, passed, outcome-ends}
-use Rattle.model.proofs.Searched.{Short, Planned, whole, short, plan-is}
+use Rattle.model.proofs.Searched.{parts-some, met-by, unmet, Settled, full, large, met, unsettled, settled-is, Unended, Ending, stopped, dried}
+use Rattle.model.proofs.Searched.{passed, outcome-ends, Short, Planned, whole, short, plan-is}
 
 pub data Concluded (w : Network) (capacity : ℕ) : Outcome → Type 0 where
   reached-at : {d : Matrix} {k : ℕ} → First w k → firstCommon (w .n) (w .start) (lists w k) ≡ some d → (EndsEarly w capacity → ⊥)
-      → Concluded w capacity (reached k (pick (w .n) d))
+      → Concluded w capacity (reached k (partsOf w) (startIn (w .n) (partsOf w) d))
   table-full : {k : ℕ} → EndsAt w capacity k → capacity < length (lists w k) → Concluded w capacity (tableFull k)
   bound-too-large : {k : ℕ} → k ≤ w .horizon → EndsAt w capacity k → length (lists w k) ≤ capacity → someLarge (lists w k) ≡ true
       → Concluded w capacity (boundTooLarge k)
@@ -71,9 +71,9 @@ module _ (w : Network) (capacity : ℕ) (reg : Regular (w .n) (w .times)) (some-
   settles j l h ends (full f) p e = let q : tableFull j ≡ p = cc in rw (← q) (table-full ends f)
   settles j l h ends (large f g) p e = let q : boundTooLarge j ≡ p = cc in let u = ends .searched in rw (← q) (bound-too-large {k = j} (omega arith) ends f g)
   settles j l h ends (met {c} f g k) p e =
-      let q : reached j (pick (w .n) c) ≡ p = cc in
+      let q : reached j (partsOf w) (startIn (w .n) (partsOf w) c) ≡ p = cc in
       let u = ends .searched in
-      let m : Met w j = (pick (w .n) c, met-by w reg j k) in
+      let m : Met w j = (partsOf w, parts-some w, startIn (w .n) (partsOf w) c, met-by w reg j k) in
       rw (← q) (reached-at (record { from-one = l; to-horizon = omega arith; not-before = ends .unmet; met = m }) k (met-first j l m ends f g))
   settles j l h ends (unsettled f g k) p e = impossible cc
 

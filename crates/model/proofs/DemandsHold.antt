@@ -16,8 +16,8 @@ use Rattle.model.specs.declared.Fault.{Fault}
 use Rattle.model.specs.declared.Verdict.{Verdict}
 use Rattle.model.specs.declared.Verdict.the-variants as verdict
 use Rattle.model.specs.Matrix.{Matrix}
-use Rattle.model.specs.Network.{Network}
-use Rattle.model.specs.Search.{Outcome, reached, clear, never, tableFull, boundTooLarge, firstCommon, pick, outcome, lists, someLarge}
+use Rattle.model.specs.Network.{Network, inParts}
+use Rattle.model.specs.Search.{Outcome, reached, clear, never, tableFull, boundTooLarge, firstCommon, partsOf, startIn, outcome, lists, someLarge}
 use Rattle.model.specs.Faults.{network, callFault}
 use Rattle.model.specs.Answers.{seconds, cycleNumber, allTimes, numbersOf, refusal, answered, answer, workspaceAfter, answerPacked, workspaceAfterPacked}
 use Rattle.model.specs.Zones.{ListsOfZones}
@@ -26,7 +26,6 @@ use Rattle.model.specs.Demands.{InLimits, TooMuch, Ended, Demand1, Witne
 use Rattle.model.specs.Demands.{FullAt, LargeAt, Demand2, Repeats, RunsDry, NeverHolds, Demand3, Demands, PackedDemands}
 use Rattle.model.specs.Conditions.{Regular}
 use Rattle.model.proofs.ZoneSets.{lists-of-zones}
-use Rattle.model.proofs.Start.{pick-length}
 use Rattle.model.proofs.Searched.{met-by}
 use Rattle.model.proofs.Limits.{limits-of}
 use Rattle.model.proofs.Sizes.{none-large}
@@ -37,7 +36,7 @@ use Rattle.model.proofs.Concluded as concluded
 use Rattle.model.proofs.Concluded.{Concluded, reached-at, clear-at, never-at, conclusion}
 
 ended : (o : Outcome) → Ended (numbersOf (answered o .verdict))
-ended (reached k xs) = D.Ended.reached k
+ended (reached k parts xs) = D.Ended.reached k
 ended (clear k) = D.Ended.clear k
 ended never = D.Ended.never
 ended (tableFull k) = D.Ended.table-full k
@@ -81,7 +80,7 @@ pub record ReachedAt (w : Network) (o : Outcome) (k : ℕ) : Type 0 where
   pub zone : Matrix
   pub is-first : First w k
   pub in-common : firstCommon (w .n) (w .start) (lists w k) ≡ some zone
-  pub is : o ≡ reached k (pick (w .n) zone)
+  pub is : o ≡ reached k (partsOf w) (startIn (w .n) (partsOf w) zone)
 
 pub reached-only : {w : Network} {capacity : ℕ} {o : Outcome} → Concluded w capacity o → (k : ℕ) → Verdict-of o ≡ verdict.Reached (cycleNumber k)
     → ReachedAt w o k
@@ -113,11 +112,13 @@ module _ (w : Network) (capacity : ℕ) (reg : Regular (w .n) (w .times)) (some-
   only-first (never-at h) d k g = absurd (never-met h k (g .from-one) (g .met))
 
   started : {o : Outcome} → Concluded w capacity o → (k : ℕ) → Verdict-of o ≡ verdict.Reached (cycleNumber k)
-      → Witness w k (map (λ x. x .0) (take (w .n) (answered o .start)))
+      → (answered o .parts ≡ partsOf w) × Witness (inParts (answered o .parts) w) k (map (λ x. x .0) (take (w .n) (answered o .start)))
+  unfolding inParts
   started c k e =
       let r = reached-only c k e in
-      let xs = pick (w .n) (r .zone) in
-      rw (r .is, first-times (w .n) xs (pick-length (w .n) (r .zone)), numbers xs) (met-by w reg k (r .in-common))
+      let xs = startIn (w .n) (partsOf w) (r .zone) in
+      let met = met-by w reg k (r .in-common) in
+      rw (r .is, first-times (w .n) xs (met .size), numbers xs) (refl, met)
 
   otherwise : {o : Outcome} → Concluded w capacity o → (EndsEarly w capacity → ⊥) → NotBefore w (suc (w .horizon))
       → (Verdict-of o ≡ verdict.Clear (cycleNumber (w .horizon))) ⊎ (Verdict-of o ≡ verdict.Never)

@@ -9,8 +9,9 @@ use lib.Seq.{ext-getD, getD-append-add}
 use Rattle.model.specs.Lists.{tabulate, Every}
 use Rattle.model.specs.Bound as B
 use Rattle.model.specs.Bound.{Bound}
-use Rattle.model.proofs.Listed.{every-getD}
-use Rattle.model.specs.Matrix.{Matrix, entry, matrix}
+use Rattle.model.specs.Matrix.{Matrix, entry, matrix, Constraint}
+use Rattle.model.specs.Search.{boundsOf}
+use Rattle.model.proofs.Listed.{every-getD, every-tabulate, at-tabulate, every-flatten, in-flatten}
 
 module _ {ℓ} {X : Type ℓ} where
   pub length-tabulate : (n k : ℕ) (f : ℕ → X) → length (tabulate n k f) ≡ n
@@ -82,3 +83,13 @@ ext-entry m d e ld le h =
 pub every-entry : (m : ℕ) (P : Bound → Type 0) (d : Matrix) → length d ≡ m * m → ((i j : ℕ) → i < m → j < m → P (entry m d i j)) → Every P d
 unfolding entry
 every-entry m P d e h = every-getD B.Bound.none d (λ p k. each-place m (λ p. P (getD d p B.Bound.none)) h p (omega arith))
+
+-- what holds of each bound of a matrix, as a constraint
+module _ (P : Constraint → Type 0) (m : ℕ) (d : Matrix) where
+  pub every-bound : ((i j : ℕ) → i < m → j < m → P (record { row = i; col = j; limit = entry m d i j })) → Every P (boundsOf m d)
+  unfolding boundsOf
+  every-bound h = every-flatten (every-tabulate m 0 _ (λ i hi. every-tabulate m 0 _ (λ j hj. h _ _ (omega arith) (omega arith))))
+
+  pub at-bound : Every P (boundsOf m d) → (i j : ℕ) → i < m → j < m → P (record { row = i; col = j; limit = entry m d i j })
+  unfolding boundsOf
+  at-bound h i j hi hj = simp zero-add at (at-tabulate m 0 _ (at-tabulate m 0 _ (in-flatten _ h) i hi) j hj)

@@ -1,21 +1,20 @@
--- No set on the way passes the limit: the laws of Fitting, and that it holds of every set that a search builds.
+-- No set on the way passes the limit: the laws of Fitting, and that it holds of sets that are built from small constraints.
 use Prim.Native.Nat.{ℕ, suc, _+_, _*_, _≤_}
 use native.Mathlib.Omega.{arith}
 use mathlib.Core.Path.{_≡_, refl}
 use mathlib.Core.List.{List, [], _∷_, _++_, foldl, append-nil}
 use mathlib.Core.Option.{Option, none, some}
-use Rattle.model.specs.Sizes.{timesApart, mostDepartures, mostCycles, boundLimit, zoneLimit}
+use Rattle.model.specs.Sizes.{timesApart, boundLimit}
 use Rattle.model.specs.Lists.{Every, done, both}
 use Rattle.model.specs.Bound.{Bound}
-use Rattle.model.specs.Matrix.{Matrix, everything, Constraint, constrain}
-use Rattle.model.specs.Network.{Network}
-use Rattle.model.specs.Search.{lists}
+use Rattle.model.specs.Matrix.{Matrix, Constraint, constrain}
+use Rattle.model.specs.Network.{Time}
 use Rattle.model.specs.Conditions.{Fits, Small, AllSmall, Made, TimesSmall, PatternSmall, Bounded, Fitting, gone, last, more, Buildable, Meetable}
 use Rattle.model.proofs.Listed.{every-map}
 use Rattle.model.proofs.Patterns.{pattern-fits}
 use Rattle.model.proofs.Size.{small-mono}
 use Rattle.model.proofs.Preimage.{cols, at-rows, selection-fits}
-use Rattle.model.proofs.Sizes.{made-small, made-all, made-everything, made-lists, row-small, pattern-small, zone-limit, building-limit}
+use Rattle.model.proofs.Sizes.{made-small, made-all, made-everything, row-small, pattern-small}
 
 module _ {m L : ℕ} where
   -- the set itself, and one step
@@ -62,30 +61,13 @@ module _ {n B L : ℕ} (limit : n * B ≤ L) where
       go none f = gone
       go (some c) f = f c refl
 
--- a pattern
-pub target-meetable : (n : ℕ) (b : List Bound) → n ≤ mostDepartures → PatternSmall n boundLimit b → Meetable n b zoneLimit (everything (suc n))
-target-meetable n b few small =
-    made-fitting (zone-limit n 0 few (omega arith)) (made-everything n boundLimit) (pattern-fits n b) (pattern-small n b small)
+-- so its preimages can be built within a limit that has room for them, and what it has in common with a pattern
+module _ {n B L : ℕ} where
+  pub made-buildable : (a : List Time) → TimesSmall n a → n * (n * B + timesApart) ≤ L → {d : Matrix} → Made n B d → Buildable n a L d
+  made-buildable a ts room {d} m sel q =
+      made-fitting room (made-everything n (n * B + timesApart)) (selection-fits n a d sel q)
+      (at-rows n a d sel q (λ c. Small (n * B + timesApart) (c .limit)) (λ r h.
+      row-small n a ts d (n * B) (made-small m) (omega arith) (λ l u. cols n a sel q l (omega arith)) (cols n a sel q (suc r) (omega arith))))
 
--- the zones of list k
-module _ (w : Network) (few : w .n ≤ mostDepartures) (ts : TimesSmall (w .n) (w .times)) (target-small : PatternSmall (w .n) boundLimit (w .target))
-    (k : ℕ) (cycles : k ≤ mostCycles) where
-  abbrev n : ℕ
-  n = w .n
-
-  abbrev B : ℕ
-  B = boundLimit + timesApart * k
-
-  pub buildable : Every (Buildable n (w .times) zoneLimit) (lists w k)
-  buildable = every-map (λ d m sel q.
-      made-fitting (building-limit n k few cycles) (made-everything n (n * B + timesApart)) (selection-fits n (w .times) d sel q)
-      (at-rows n (w .times) d sel q (λ c. Small (n * B + timesApart) (c .limit)) (λ r h.
-      row-small n (w .times) ts d (n * B) (made-small m) (omega arith)
-      (λ l u. cols n (w .times) sel q l (omega arith)) (cols n (w .times) sel q (suc r) (omega arith)))))
-      (made-lists w ts target-small k)
-
-  pub meetable : PatternSmall n boundLimit (w .start) → Every (Meetable n (w .start) zoneLimit) (lists w k)
-  meetable start-small = every-map (λ z m.
-      made-fitting (zone-limit n k few cycles) m (pattern-fits n (w .start))
-      (every-map (λ c. small-mono (omega arith)) (pattern-small n (w .start) start-small)))
-      (made-lists w ts target-small k)
+  pub made-meetable : (b : List Bound) → PatternSmall n boundLimit b → boundLimit ≤ B → n * B ≤ L → {d : Matrix} → Made n B d → Meetable n b L d
+  made-meetable b small wider room m = made-fitting room m (pattern-fits n b) (every-map (λ c. small-mono wider) (pattern-small n b small))

@@ -7,24 +7,24 @@ use native.Mathlib.Decide.{ℕ-discrete, decLe}
 use mathlib.Core.Path.{_≡_}
 
 -- f 0 + .. + f (n - 1)
-total : (ℕ → ℕ) → ℕ → ℕ
+pub total : (ℕ → ℕ) → ℕ → ℕ
 total f zero = 0
 total f (suc n) = total f n + f n
 
 -- n equal terms
-total-constant : (c n : ℕ) → total (λ t. c) n ≡ n * c
+pub total-constant : (c n : ℕ) → total (λ t. c) n ≡ n * c
 unfolding total
 total-constant c zero = omega arith
 total-constant c (suc n) = omega (arith, total-constant c n, suc-mul n c)
 
 -- if no term falls, the sum does not
-total-mono : (f g : ℕ → ℕ) (n : ℕ) → ((t : ℕ) → t < n → f t ≤ g t) → total f n ≤ total g n
+pub total-mono : (f g : ℕ → ℕ) (n : ℕ) → ((t : ℕ) → t < n → f t ≤ g t) → total f n ≤ total g n
 unfolding total
 total-mono f g zero h = omega arith
 total-mono f g (suc n) h = omega (arith, h n (omega arith), total-mono f g n (λ t l. h t (omega arith)))
 
 -- and it rises by at least what any one term does
-total-rises : (f g : ℕ → ℕ) (n : ℕ) → ((t : ℕ) → t < n → f t ≤ g t) → (t : ℕ) → t < n → total f n + g t ≤ total g n + f t
+pub total-rises : (f g : ℕ → ℕ) (n : ℕ) → ((t : ℕ) → t < n → f t ≤ g t) → (t : ℕ) → t < n → total f n + g t ≤ total g n + f t
 unfolding total
 total-rises f g zero h t l = absurd (omega arith)
 total-rises f g (suc n) h t l = elim (ℕ-discrete t n) [

@@ -1,21 +1,23 @@
 -- The columns of the rows before: where each attains the largest sum at all times of a set, what further rows leave of the set
 -- goes by the images in those rows, and not by which columns they are.
-use Prim.Native.Nat.{ℕ, zero, suc, _+_, _-_, _≤_, _<_}
+use Prim.Native.Nat.{ℕ, zero, suc, _+_, _≤_, _<_}
 use native.Mathlib.Omega.{arith}
 use mathlib.Core.Path.{_≡_, refl, sym, _∙_}
-use mathlib.Core.List.{List, [], _∷_, _++_, foldl}
+use mathlib.Core.List.{List, [], _∷_, _++_, map, foldl}
 use mathlib.Core.Option.{Option, some}
 use lib.IntN.{ℤ}
 use lib.ListN.{length, getD, length-append, List·getD-append}
 use lib.Seq.{getD-at}
 use Rattle.model.specs.Matrix.{Matrix, constrain, Member}
-use Rattle.model.specs.Network.{Time}
+use Rattle.model.specs.Network.{Time, scaleTime}
 use Rattle.model.specs.Search.{keeps, rowConstraints, rowsConstraints}
 use Rattle.model.specs.Lists.{Every, done}
 use Rattle.model.specs.Conditions.{Closed, Fits, Column, Chosen, Cols, image, sum, Before, Selection, no-row, choose}
 use Rattle.model.proofs.Listed.{one-more, every-append, every-split}
-use Rattle.model.proofs.Zones.{Keeps, In, closed, all-closed, all-in, same-zones}
+use Rattle.model.proofs.Unique.{scaled}
+use Rattle.model.proofs.Zones.{Keeps, In, closed, zoneParts, all-closed, all-in-parts, same-zones}
 use Rattle.model.proofs.Rows.{Row, row-of, of-row}
+use Rattle.model.proofs.Parts.{column-parts, row-parts, rows-parts}
 use Rattle.model.proofs.Selections.{chosen-at}
 use Rattle.model.proofs.Preimage.{image-attained, attains-behind, keeps-sums, row-fits}
 
@@ -64,32 +66,41 @@ module _ (n : ℕ) (a : List Time) (d : Matrix) where
       every-append (of-row (Fits (suc n)) n a d cols i j (row-fits n a d before (chosen-at h c)))
       (rows-fit (cols ++ (j ∷ [])) (omega arith) (long-more cols j long) (more-at (λ l u v. Chosen n a l u) cols cols j long long before (chosen-at h c)) q)
 
+module _ (n : ℕ) (a : List Time) (d : Matrix) where
   -- what the rows from row i on leave of p
   abbrev left : Matrix → ℕ → List ℕ → List ℕ → Option Matrix
   left p i cols rest = foldl (constrain (suc n)) (some p) (rowsConstraints n a d cols i rest)
 
   module _ {p : Matrix} {i : ℕ} where
     one-way : (cols cols′ : List ℕ) {rest : List ℕ} {r : ℕ} → Before n a p cols i → Before n a p cols′ i → Selection n a r i rest
-        → (x : ℕ → ℤ) → In (suc n) (left p i cols rest) x → In (suc n) (left p i cols′ rest) x
-    one-way cols cols′ {rest} b b′ q x h =
-        let (m, k) = all-in (suc n) (closed (b .closed-set)) (rows-fit cols (b .from-one) (b .long) (b .columns) q) x .0 h in
-        all-in (suc n) (closed (b′ .closed-set)) (rows-fit cols′ (b′ .from-one) (b′ .long) (b′ .columns) q) x .1
-        (m, rows-alike x cols cols′ rest (b .long) (b′ .long) (λ l u. b .imaged x m l u ∙ sym (b′ .imaged x m l u)) k)
+        → (parts : ℕ) → 1 ≤ parts → (x : ℕ → ℤ) → In (suc n) (zoneParts parts (left p i cols rest)) x → In (suc n) (zoneParts parts (left p i cols′ rest)) x
+    one-way cols cols′ {rest} b b′ q parts some-parts x h =
+        let in-parts = rows-parts parts some-parts n a d in
+        let (m, k) = all-in-parts (suc n) parts some-parts (closed (b .closed-set)) (rows-fit n a d cols (b .from-one) (b .long) (b .columns) q) x .0 h in
+        let same = rows-alike n (map (scaleTime parts) a) (scaled parts d) x cols cols′ rest (b .long) (b′ .long) (λ l u.
+        b .imaged parts some-parts x m l u ∙ sym (b′ .imaged parts some-parts x m l u)) (rw (in-parts cols i rest) at k) in
+        all-in-parts (suc n) parts some-parts (closed (b′ .closed-set)) (rows-fit n a d cols′ (b′ .from-one) (b′ .long) (b′ .columns) q) x .1
+        (m, rw (in-parts cols′ i rest) same)
 
     pub same-left : {cols cols′ rest : List ℕ} {r : ℕ} → Before n a p cols i → Before n a p cols′ i → Selection n a r i rest
         → left p i cols rest ≡ left p i cols′ rest
     same-left {cols} {cols′} b b′ q =
-        same-zones (suc n)
-        (all-closed (suc n) (closed (b .closed-set)) (rows-fit cols (b .from-one) (b .long) (b .columns) q))
-        (all-closed (suc n) (closed (b′ .closed-set)) (rows-fit cols′ (b′ .from-one) (b′ .long) (b′ .columns) q))
-        (λ x. (one-way cols cols′ b b′ q x, one-way cols′ cols b′ b q x))
+        same-zones (suc n) (omega arith)
+        (all-closed (suc n) (closed (b .closed-set)) (rows-fit n a d cols (b .from-one) (b .long) (b .columns) q))
+        (all-closed (suc n) (closed (b′ .closed-set)) (rows-fit n a d cols′ (b′ .from-one) (b′ .long) (b′ .columns) q))
+        (λ parts h x. (one-way cols cols′ b b′ q parts h x, one-way cols′ cols b′ b q parts h x))
 
-  -- ---- one row more: its column attains the image too
+  -- ---- one row more: its column attains the image too, in all parts
   pub row-imaged : {p q : Matrix} (cols : List ℕ) {i s : ℕ} → Closed (suc n) p → Cols n a cols i → 1 ≤ i → Column n a i s
       → foldl (constrain (suc n)) (some p) (rowConstraints n a d cols i s) ≡ some q
-      → (x : ℕ → ℤ) → Member (suc n) q x → Member (suc n) p x × (sum n a x i s ≡ image n a x i)
-  row-imaged cols {i = zero} cl before h c e x m = absurd (omega arith)
-  row-imaged {p} cols {i = suc r} {s} cl before h c e x m =
-      let inside : In (suc n) (foldl (constrain (suc n)) (some p) (rowConstraints n a d cols (suc r) s)) x = rw e m in
-      let (k, ks) = all-in (suc n) (closed cl) (of-row (Fits (suc n)) n a d cols (suc r) s (row-fits n a d before (chosen-at h c))) x .0 inside in
-      (k, sym (image-attained n a x c (attains-behind n a x c .0 (row-of (Keeps x) n a d cols (suc r) s ks .attained))))
+      → (parts : ℕ) → 1 ≤ parts → (x : ℕ → ℤ) → Member (suc n) (scaled parts q) x
+      → let b = map (scaleTime parts) a in Member (suc n) (scaled parts p) x × (sum n b x i s ≡ image n b x i)
+  row-imaged cols {i = zero} cl before h c e parts some-parts x m = absurd (omega arith)
+  row-imaged {p} cols {i = suc r} {s} cl before h c e parts some-parts x m =
+      let inside : In (suc n) (zoneParts parts (foldl (constrain (suc n)) (some p) (rowConstraints n a d cols (suc r) s))) x = rw e m in
+      let fits = of-row (Fits (suc n)) n a d cols (suc r) s (row-fits n a d before (chosen-at h c)) in
+      let (k, ks) = all-in-parts (suc n) parts some-parts (closed cl) fits x .0 inside in
+      let b = map (scaleTime parts) a in
+      let row = row-of (Keeps x) n b (scaled parts d) cols (suc r) s (rw (row-parts parts some-parts n a d cols (suc r) s) at ks) in
+      let column = column-parts parts n a c in
+      (k, sym (image-attained n b x column (attains-behind n b x column .0 (row .attained))))

@@ -4,7 +4,7 @@ use Prim.Native.Nat.{ℕ, zero, suc, _+_, _-_, _*_, _^_, _≤_, _<_}
 use native.Mathlib.Omega.{arith}
 use native.Mathlib.Nat.{div-one, mod-eq-of-lt, pow-suc}
 use mathlib.Core.Path.{_≡_, refl, sym, ap, _∙_}
-use mathlib.Core.List.{List, [], _∷_, _++_, map, flatMap, append-assoc, append-nil}
+use mathlib.Core.List.{List, [], _∷_, _++_, map, flatMap, append-assoc, append-nil, map-append}
 use mathlib.Core.Bool.{Bool, true, false, cond}
 use mathlib.Core.Option.{Option, none, some}
 use lib.Dec.{ltb, eqb}
@@ -13,15 +13,18 @@ use lib.ListN.{length, take, length-append}
 use lib.Seq.{length-take-le}
 use borrow.Author.Tests.{eqb-true, eqb-false, ltb-false, lt-ltb, le-ltb}
 use Rattle.ints.proofs.Integers.{up, dn, ints, sub-ud}
+use Rattle.model.specs.Sizes.{boundLimit, boundWidth, patternSize}
 use Rattle.model.specs.declared.Slot.{Slot}
+use Rattle.model.specs.declared.Limit.{Limit}
 use Rattle.model.specs.declared.Fault.{Fault}
-use Rattle.model.specs.Lists.{tabulate, when, Every, done, both}
-use Rattle.model.specs.Faults.{nothing, present, beyond}
-use Rattle.model.specs.Packed.{Reading, got, refused, andThen, bits, signed, entry, entries}
-use Rattle.model.specs.Writing.{fieldBits, rawOf, Kind, slotKind, entryBits, entriesBits, tidy}
-use Rattle.model.specs.Conditions.{InLimit}
+use Rattle.model.specs.declared.Fault.the-variants as fault
+use Rattle.model.specs.Lists.{tabulate, when, orElse, Every, done, both}
+use Rattle.model.specs.Faults.{nothing, present, stated, unmarked, beyond, over, boundFault}
+use Rattle.model.specs.Packed.{Reading, got, refused, andThen, bits, signed, entry, entries, bounds}
+use Rattle.model.specs.Writing.{fieldBits, rawOf, Kind, slotKind, boundKind, entryBits, entriesBits, tidy}
+use Rattle.model.specs.Conditions.{InLimit, BoundInLimit}
 use Rattle.model.proofs.Listed.{every-map}
-use Rattle.model.proofs.Limits.{when-none}
+use Rattle.model.proofs.Limits.{over-none, boundFault-none}
 use Rattle.model.proofs.Parsed.{Gives, value, no-value, test-gives, then-gives}
 use Rattle.model.proofs.Spelled.{Spells, end, join, split, bits-of, bits-spell}
 
@@ -48,6 +51,12 @@ then-same : {A B : Type 0} {f g : A → ℕ → Reading B} (x : Reading A) → (
 then-same (got a q) same = same a q
 then-same (refused f) same = refl
 
+-- and readings in three
+then-then : {A B C : Type 0} (x : Reading A) (f : A → ℕ → Reading B) (g : B → ℕ → Reading C)
+    → andThen (andThen x f) g ≡ andThen x (λ a q. andThen (f a q) g)
+then-then (got a q) f g = refl
+then-then (refused e) f g = refl
+
 -- the reader's entries are of the kind with its width, limit and fault
 module _ (s : List ℕ) (w limit : ℕ) (f : ℕ → Fault) where
   as-judged : {A : Type 0} (t : Bool) (fault : Fault) (e : A) (q : ℕ) → cond t (refused fault) (got e q) ≡ unlessJudged (when t fault) e q
@@ -55,7 +64,7 @@ module _ (s : List ℕ) (w limit : ℕ) (f : ℕ → Fault) where
   as-judged false fault e q = refl
 
   entry-at : (p : ℕ) → entry s w limit f p ≡ entryAt (slotKind w limit f) s p
-  unfolding entry entryAt
+  unfolding entry entryAt over
   entry-at p =
       then-same (bits s 1 p p) (λ bit q.
       ap (cond (eqb bit 0) (got nothing q)) (then-same (bits s w p q) (λ raw r.
@@ -65,6 +74,47 @@ module _ (s : List ℕ) (w limit : ℕ) (f : ℕ → Fault) where
   unfolding entries entriesAt
   entries-at zero p before = refl
   entries-at (suc count) p before = rw (entry-at p) (then-same (entryAt (slotKind w limit f) s p) (λ e q. entries-at count q (before ++ e ∷ [])))
+
+-- and its bounds are of theirs
+module _ (s : List ℕ) where
+  -- an entry that is read as a bound has no mark, so it is judged as the entry is
+  as-bound : (t : Bool) (f : Fault) (e : Slot) (q : ℕ)
+      → andThen (unlessJudged (when t f) e q) (λ e r. got (unmarked e) r) ≡ unlessJudged (orElse (when t f) none) (unmarked e) q
+  as-bound true f e q = refl
+  as-bound false f e q = refl
+
+  bound-at : (p : ℕ) → andThen (entry s boundWidth boundLimit fault.Bound p) (λ e q. got (unmarked e) q) ≡ entryAt boundKind s p
+  unfolding entryAt over boundFault
+  bound-at p = rw (entry-at s boundWidth boundLimit fault.Bound p) (then-then (bits s 1 p p) _ _ ∙ then-same (bits s 1 p p) (λ bit q. go (eqb bit 0) q))
+    where
+      slots : Kind Slot
+      slots = slotKind boundWidth boundLimit fault.Bound
+
+      go : (t : Bool) (q : ℕ)
+          → andThen (cond t (got nothing q) (andThen (bits s boundWidth p q) (λ raw r. unlessJudged (slots .judge p (slots .value raw)) (slots .value raw) r)))
+          (λ e r. got (unmarked e) r)
+          ≡ cond t (got (unmarked nothing) q)
+          (andThen (bits s boundWidth p q) (λ raw r. unlessJudged (boundKind .judge p (boundKind .value raw)) (boundKind .value raw) r))
+      go true q = refl
+      go false q =
+          then-then (bits s boundWidth p q) _ _ ∙ then-same (bits s boundWidth p q) (λ raw r.
+          as-bound (beyond boundLimit (slots .value raw)) (fault.Bound p) (slots .value raw) r)
+
+  bounds-from : (count p : ℕ) (before : List Slot)
+      → andThen (entries s boundWidth boundLimit fault.Bound count p before) (λ es q. got (map unmarked es) q)
+      ≡ entriesAt boundKind s count p (map unmarked before)
+  unfolding entries entriesAt
+  bounds-from zero p before = refl
+  bounds-from (suc count) p before =
+      then-then (entry s boundWidth boundLimit fault.Bound p) _ _
+      ∙ then-same (entry s boundWidth boundLimit fault.Bound p) (λ e q.
+      bounds-from count q (before ++ e ∷ []) ∙ ap (entriesAt boundKind s count q) (map-append unmarked before (e ∷ [])))
+      ∙ sym (then-then (entry s boundWidth boundLimit fault.Bound p) _ _)
+      ∙ ap (λ (x : Reading Limit). andThen x (λ e q. entriesAt boundKind s count q (map unmarked before ++ e ∷ []))) (bound-at p)
+
+  bounds-at : (n p : ℕ) → bounds s n p ≡ entriesAt boundKind s (patternSize n) p []
+  unfolding bounds
+  bounds-at n p = bounds-from (patternSize n) p []
 
 -- ---- kinds whose numbers and entries are each recovered from the other
 -- an entry without a fault, at any place
@@ -146,6 +196,16 @@ module _ {A : Type 0} (k : Kind A) (law : Lawful k) (s : List ℕ) where
       let long : length (before ++ x ∷ []) + count ≡ m = omega (arith, length-append before (x ∷ [])) in
       entries-spell m count first q (before ++ x ∷ []) (rw (bits-append k before (x ∷ []), append-nil) (join h r)) long)
 
+  -- of entries without a fault the first count are read where they are written
+  first-of : {p q : ℕ} (count : ℕ) (es : List A) → count ≤ length es → Every (Clean k) (take count es) → Spells s p (entriesBits k (take count es)) q
+      → entriesAt k s count p [] ≡ got (map (tidy k) (take count es)) q
+  first-of {p} count es long clean r = rw (length-take-le count es long) at (entries-of (take count es) [] clean r)
+
+  -- count entries that are read are written there
+  first-spell : (count p : ℕ) → p ≤ 8 * length s → Gives (λ es q. Spells s p (entriesBits k es) q × (length es ≡ count)) (entriesAt k s count p [])
+  unfolding entriesBits flatMap
+  first-spell count p h = entries-spell count count p p [] (end p h) (omega arith)
+
 -- ---- two's complement
 -- pos v - pos (half * 2), below 0
 wrapped : (half v : ℕ) → v < half * 2 → pos v -ℤ pos (half * 2) ≡ negsuc (half * 2 - suc v)
@@ -171,7 +231,7 @@ signed-raw half (negsuc v) h =
 
 -- the kind of suc w bits is lawful, if w bits hold its limit
 pub slot-lawful : (w limit : ℕ) (f : ℕ → Fault) → limit < 2 ^ w → Lawful (slotKind (suc w) limit f)
-unfolding beyond
+unfolding beyond over
 slot-lawful w limit f few = rw e record {
   absent-is = refl;
   value-is = λ v. refl;
@@ -183,23 +243,49 @@ slot-lawful w limit f few = rw e record {
     e : suc w - 1 ≡ w
     e = omega arith
 
-    small : (e : Slot) → e .has ≡ true → when (beyond limit e) (f 0) ≡ none → natAbs (e .value .0) < 2 ^ w
+    small : (e : Slot) → e .has ≡ true → over limit f 0 e ≡ none → natAbs (e .value .0) < 2 ^ w
     small e h clean =
-        let t : ltb limit (natAbs (e .value .0)) ≡ false = rw h at (when-none (beyond limit e) (f 0) .0 clean) in
+        let t : ltb limit (natAbs (e .value .0)) ≡ false = rw h at (over-none limit f 0 e .0 clean) in
         omega (arith, few, ltb-false)
+
+-- so is the kind of bounds
+pub bound-lawful : Lawful boundKind
+bound-lawful = record {
+  absent-is = refl;
+  value-is = law .value-is;
+  raw-value = law .raw-value;
+  raw-small = λ e h clean. law .raw-small (stated e) h (stated-clean e clean);
+  value-raw = λ e h clean. ap unmarked (law .value-raw (stated e) h (stated-clean e clean)) ∙ no-mark e h (clean 0);
+}
+  where
+    law : Lawful (slotKind boundWidth boundLimit fault.Bound)
+    law = slot-lawful (boundWidth - 1) boundLimit fault.Bound (omega arith)
+
+    stated-clean : (e : Limit) → Clean boundKind e → Clean (slotKind boundWidth boundLimit fault.Bound) (stated e)
+    stated-clean e clean p = over-none boundLimit fault.Bound p (stated e) .1 (boundFault-none false p e .0 (clean p) .0)
+
+    no-mark : (e : Limit) → e .has ≡ true → boundFault false 0 e ≡ none → unmarked (stated e) ≡ e
+    no-mark e h clean = let m : e .strict ≡ false = rw h at (boundFault-none false 0 e .0 clean .1) in rw (← m)
 
 -- ---- the reader's entries
 module _ (w limit : ℕ) (f : ℕ → Fault) (law : Lawful (slotKind w limit f)) (s : List ℕ) where
-  -- of entries in the limit the first count are read where they are written
   pub slots-of : {p q : ℕ} (count : ℕ) (es : List Slot) → count ≤ length es → Every (InLimit limit) (take count es)
       → Spells s p (entriesBits (slotKind w limit f) (take count es)) q
       → entries s w limit f count p [] ≡ got (map (tidy (slotKind w limit f)) (take count es)) q
   slots-of {p} count es long h r =
-      let all = entries-of (slotKind w limit f) law s (take count es) [] (every-map (λ e l p. rw l) h) r in
-      entries-at s w limit f count p [] ∙ (rw (length-take-le count es long) at all)
+      entries-at s w limit f count p [] ∙ first-of (slotKind w limit f) law s count es long (every-map (λ e l p. over-none limit f p e .1 l) h) r
 
-  -- count entries that are read are written there
   pub slots-spell : (count p : ℕ) → p ≤ 8 * length s
       → Gives (λ es q. Spells s p (entriesBits (slotKind w limit f) es) q × (length es ≡ count)) (entries s w limit f count p [])
-  unfolding entriesBits flatMap
-  slots-spell count p h = rw (entries-at s w limit f count p []) (entries-spell (slotKind w limit f) law s count count p p [] (end p h) (omega arith))
+  slots-spell count p h = rw (entries-at s w limit f count p []) (first-spell (slotKind w limit f) law s count p h)
+
+-- and its bounds
+module _ (s : List ℕ) (n : ℕ) where
+  pub bounds-of : {p q : ℕ} (es : List Limit) → patternSize n ≤ length es → Every (BoundInLimit false) (take (patternSize n) es)
+      → Spells s p (entriesBits boundKind (take (patternSize n) es)) q → bounds s n p ≡ got (map (tidy boundKind) (take (patternSize n) es)) q
+  bounds-of {p} es long h r =
+      bounds-at s n p ∙ first-of boundKind bound-lawful s (patternSize n) es long (every-map (λ e b p. boundFault-none false p e .1 b) h) r
+
+  pub bounds-spell : (p : ℕ) → p ≤ 8 * length s
+      → Gives (λ es q. Spells s p (entriesBits boundKind es) q × (length es ≡ patternSize n)) (bounds s n p)
+  bounds-spell p h = rw (bounds-at s n p) (first-spell boundKind bound-lawful s (patternSize n) p h)

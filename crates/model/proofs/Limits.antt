@@ -16,18 +16,19 @@ use lib.Seq.{getD-drop, drop-drop, take-add}
 use borrow.Author.Tests.{ltb-false, le-ltb, not-false}
 use Rattle.ints.specs.declared.Seconds.{Seconds}
 use Rattle.ints.proofs.Integers.{impossible}
-use Rattle.model.specs.Sizes.{mostCycles, mostZones, timeLimit, startLimit, tableSize, workspaceSize}
+use Rattle.model.specs.Sizes.{mostCycles, mostZones, timeLimit, boundLimit, startLimit, tableSize, workspaceSize}
 use Rattle.model.specs.declared.Slot.{Slot}
+use Rattle.model.specs.declared.Limit.{Limit}
 use Rattle.model.specs.declared.Case.{Case}
 use Rattle.model.specs.declared.Fault.{Fault}
 use Rattle.model.specs.Lists.{anyOf, when, orElse, Every, done, both}
 use Rattle.model.specs.Bound as B
-use Rattle.model.specs.Bound.{Bound, most}
+use Rattle.model.specs.Bound.{Bound, upto}
 use Rattle.model.specs.Pattern.{pairPlace, pairBound}
 use Rattle.model.specs.Network.{Time, blank, secs, time, isTime, regular}
-use Rattle.model.specs.Faults.{timeOf, tableOf, boundOf, nothing, present, network, beyond, entryFault, rowsFault}
-use Rattle.model.specs.Faults.{outside, tableFault, patternsFault, caseFault, roomFault, callFault, runFault}
-use Rattle.model.specs.Conditions.{Departures, Regular, Small, free, sized, InLimit, TableLimits, Limits}
+use Rattle.model.specs.Faults.{timeOf, tableOf, boundOf, nothing, present, stated, network, beyond, over, boundFault, entryFault, rowsFault}
+use Rattle.model.specs.Faults.{outside, tableFault, patternsFault, caseFault, formFault, roomFault, callFault, runFault}
+use Rattle.model.specs.Conditions.{Departures, Regular, Small, free, sized, InLimit, BoundInLimit, TableLimits, Limits}
 use Rattle.model.proofs.Places.{getD-times}
 use Rattle.model.proofs.Listed.{every-append, every-map, of-both, at-getD, map-every, of-map-every}
 
@@ -63,11 +64,31 @@ wider-limit {a} {b} h e =
     let size = natAbs (e .value .0) in
     elim (e .has) as (λ t. (t && ltb a size) ≡ false → (t && ltb b size) ≡ false) [ true ↦ λ l. le-ltb b size (omega (arith, ltb-false)) | false ↦ λ l. refl ]
 
--- every entry is in the limit
-pub entryFault-none : (limit : ℕ) (f : ℕ → Fault) (p : ℕ) (es : List Slot) → (entryFault limit f p es ≡ none) ↔ Every (InLimit limit) es
+-- every entry has P, if those that are judged without a fault do
+every-none : {A : Type 0} {judge : ℕ → A → Option Fault} {P : A → Type 0} → ((p : ℕ) (e : A) → (judge p e ≡ none) ↔ P e)
+    → (p : ℕ) (es : List A) → (entryFault judge p es ≡ none) ↔ Every P es
 unfolding entryFault
-entryFault-none limit f p [] = (λ e. done, λ e. refl)
-entryFault-none limit f p (e ∷ es) = simp (orElse-none, when-none, entryFault-none limit f (suc p) es) (λ h. both (h .0) (h .1), of-both)
+every-none each p [] = (λ e. done, λ e. refl)
+every-none each p (e ∷ es) =
+    let here = each p e in
+    let rest = every-none each (suc p) es in
+    simp orElse-none (λ h. both (here .0 (h .0)) (rest .0 (h .1)), λ h. (here .1 (of-both h .0), rest .1 (of-both h .1)))
+
+-- an entry in the limit, and a bound
+pub over-none : (limit : ℕ) (f : ℕ → Fault) (p : ℕ) (e : Slot) → (over limit f p e ≡ none) ↔ InLimit limit e
+unfolding over
+over-none limit f p e = when-none (beyond limit e) (f p)
+
+pub boundFault-none : (marks : Bool) (p : ℕ) (e : Limit) → (boundFault marks p e ≡ none) ↔ BoundInLimit marks e
+unfolding boundFault
+boundFault-none marks p e = simp (orElse-none, over-none, when-none) (λ h. h, λ h. h)
+
+-- all of them
+pub entryFault-none : (limit : ℕ) (f : ℕ → Fault) (p : ℕ) (es : List Slot) → (entryFault (over limit f) p es ≡ none) ↔ Every (InLimit limit) es
+entryFault-none limit f = every-none (over-none limit f)
+
+pub boundsFault-none : (marks : Bool) (p : ℕ) (es : List Limit) → (entryFault (boundFault marks) p es ≡ none) ↔ Every (BoundInLimit marks) es
+boundsFault-none marks = every-none (boundFault-none marks)
 
 -- r rows of n entries each: every time is in its limit, and each row holds a time
 pub data RowsInLimit (n : ℕ) : ℕ → List Slot → Type 0 where
@@ -106,7 +127,7 @@ rowsFault-none n (suc r) p es =
     (λ h. row (h .0) (h .1 .0) (h .1 .1), of-row)
 
 -- with these `simp` turns the absence of a fault into what it says, and back
-pub ruleset no-fault = (orElse-none, when-none, or-is-false, not-is-false, ltb-is-false, entryFault-none, rowsFault-none)
+pub ruleset no-fault = (orElse-none, when-none, or-is-false, not-is-false, ltb-is-false, entryFault-none, boundsFault-none, rowsFault-none)
 
 -- ---- the numbers of entries in the limit
 -- entries that are read as `value` of their number, or as `no` where absent: what holds of `no` and of `value` at small numbers holds of them
@@ -129,14 +150,15 @@ module _ {limit : ℕ} {es : List Slot} (h : Every (InLimit limit) es) where
       entry-at (λ t. t ≡ secs v → natAbs v ≤ limit) secs blank
       (λ e. impossible cc) (λ z l e. let d : z ≡ v = cc in rw d at l) h p
 
-  -- so is a bound of the pattern that they state
-  pub bound-small : (n i j : ℕ) → Small limit (pairBound n (map boundOf es) i j)
-  unfolding boundOf pairBound
-  bound-small n i j =
-      elim (eqb i j) as (λ t. Small limit (cond t B.Bound.none (getD (map boundOf es) (pairPlace n i j) B.Bound.none))) [
-        | true ↦ free
-        | false ↦ entry-at (Small limit) most B.Bound.none free (λ z. sized) h (pairPlace n i j)
-      ]
+-- and so is a bound of a pattern
+pub bound-small : (marks : Bool) {es : List Limit} → Every (BoundInLimit marks) es → (n i j : ℕ) → Small boundLimit (pairBound n (map boundOf es) i j)
+unfolding boundOf pairBound
+bound-small marks {es} h n i j =
+    elim (eqb i j) as (λ t. Small boundLimit (cond t B.Bound.none (getD (map boundOf es) (pairPlace n i j) B.Bound.none))) [
+      | true ↦ free
+      | false ↦ at-getD {P = Small boundLimit} B.Bound.none free (map-every boundOf (every-map (λ e l.
+          entry-in (Small boundLimit) (upto (e .strict)) B.Bound.none free (λ z. sized) (stated e) (l .0)) h)) (pairPlace n i j)
+    ]
 
 -- ---- rows that hold a time
 -- the place of a time
@@ -175,6 +197,15 @@ table-of : {n : ℕ} {es : List Slot} → Departures n → RowsInLimit n n es �
 unfolding time
 table-of d r = record { departures = d; regular = rows-regular r; times-small = λ i j. time-small (rows-in r) _ }
 
+-- a case for the packed form has none of the faults 2 to 6
+pub form-case : (c : Case) → formFault c ≡ none → caseFault c ≡ none
+unfolding formFault caseFault patternsFault
+form-case c h =
+    let facts = simp no-fault at h in
+    let start = every-map {Q = BoundInLimit true} (λ e b. (b .0, refl)) (facts .1 .0) in
+    let target = every-map {Q = BoundInLimit true} (λ e b. (b .0, refl)) (facts .1 .1) in
+    simp no-fault (facts .0, (start, target))
+
 module _ (c : Case) (capacity size : ℕ) (h : callFault c capacity size ≡ none) where
   -- the network of a call without a fault is in the limits
   pub limits-of : Limits (network c)
@@ -185,8 +216,8 @@ module _ (c : Case) (capacity size : ℕ) (h : callFault c capacity size ≡ non
         table = table-of (omega arith) (facts .0 .0 .1 .1);
         some-cycles = omega arith;
         few-cycles = omega arith;
-        start-small = bound-small (facts .0 .1 .0) (c .n);
-        target-small = bound-small (facts .0 .1 .1) (c .n);
+        start-small = bound-small true (facts .0 .1 .0) (c .n);
+        target-small = bound-small true (facts .0 .1 .1) (c .n);
       }
 
   -- Z is in its limits, and the workspace is long enough for it

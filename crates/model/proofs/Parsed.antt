@@ -2,12 +2,12 @@
 -- `Gives P x` says that P holds of what the reading x gives, if it gives anything.
 use Prim.Native.Nat.{ℕ, zero, suc, _+_, _-_, _*_, _^_, _≤_, _<_}
 use native.Mathlib.Omega.{arith}
-use mathlib.Core.Path.{_≡_, refl, subst}
+use mathlib.Core.Path.{_≡_, refl, subst, _∙_}
 use mathlib.Core.List.{List, [], _∷_, _++_, map, append-assoc}
 use mathlib.Core.Option.{none}
-use mathlib.Core.Bool.{Bool, true, false, cond}
+use mathlib.Core.Bool.{Bool, true, false, _&&_, cond}
 use lib.Dec.{leb, eqb}
-use lib.ListN.{length, length-append}
+use lib.ListN.{length, length-append, length-map}
 use lib.Seq.{take-at, drop-at}
 use borrow.Author.Tests.{eqb-false}
 use Rattle.model.specs.Sizes.{mostDepartures, mostCycles, timeLimit, boundLimit, patternSize, departuresWidth, horizonWidth, timeWidth, boundWidth}
@@ -16,12 +16,12 @@ use Rattle.model.specs.declared.Case.{Case}
 use Rattle.model.specs.declared.Fault.{Fault}
 use Rattle.model.specs.declared.Fault.the-variants as fault
 use Rattle.model.specs.Network.{regular}
-use Rattle.model.specs.Faults.{timeOf, present, beyond, outside, tableFault, patternsFault, caseFault, roomFault, callFault}
+use Rattle.model.specs.Faults.{timeOf, present, unmarked, beyond, outside, tableFault, patternsFault, caseFault, formFault, roomFault, callFault}
 use Rattle.model.specs.Packed.{Reading, got, refused, andThen, bitAt, numAt, bits, signed, entry, entries, rows, bounds, fill, body, parse}
 use Rattle.model.specs.Lists.{Every, done, both}
-use Rattle.model.specs.Conditions.{InLimit}
-use Rattle.model.proofs.Listed.{every-append}
-use Rattle.model.proofs.Limits.{RowsInLimit, no-row, row, no-fault}
+use Rattle.model.specs.Conditions.{InLimit, BoundInLimit}
+use Rattle.model.proofs.Listed.{every-append, every-map, map-every}
+use Rattle.model.proofs.Limits.{RowsInLimit, no-row, row, no-fault, form-case}
 use Rattle.model.proofs.Digits.{num-below, bit-small}
 
 -- ---- what holds of a reading's value and the place after it
@@ -104,20 +104,26 @@ module _ (s : List ℕ) (n : ℕ) where
       then-gives (entries-give s timeWidth timeLimit fault.Time n n p done (omega arith)) (λ es q h.
       test-gives (regular (map timeOf es)) (λ t. rows-give k q (before ++ es) (one-less n k before es (h .0) (h .1) t lacks)) (λ t. no-value))
 
-  -- bounds that are read are in their limit, and as many as a pattern has
-  bounds-give : (p : ℕ) → Gives (λ es q. Every (InLimit boundLimit) es × (length es ≡ patternSize n)) (bounds s n p)
+  -- bounds that are read are in their limit and not strict, and as many as a pattern has
+  bounds-give : (p : ℕ) → Gives (λ es q. Every (BoundInLimit false) es × (length es ≡ patternSize n)) (bounds s n p)
   unfolding bounds
-  bounds-give p = entries-give s boundWidth boundLimit fault.Bound (patternSize n) (patternSize n) p done (omega arith)
+  bounds-give p =
+      then-gives (entries-give s boundWidth boundLimit fault.Bound (patternSize n) (patternSize n) p done (omega arith)) (λ es q h.
+      value (map-every unmarked (every-map (λ e l. (l, no-mark (e .has))) (h .0)), length-map es unmarked ∙ h .1))
+    where
+      no-mark : (t : Bool) → (t && false) ≡ false
+      no-mark true = refl
+      no-mark false = refl
 
 -- ---- the case
--- none of the faults 2 to 6
+-- none of the faults 2 to 6, and no strict bound
 abbrev Faultless : Case → ℕ → Type 0
-Faultless c q = caseFault c ≡ none
+Faultless c q = formFault c ≡ none
 
 module _ (s : List ℕ) where
   -- the tables, where the two numbers are in their limits
   body-gives : (n h p : ℕ) → 1 ≤ n → n ≤ mostDepartures → 1 ≤ h → h ≤ mostCycles → Gives Faultless (body s n h p)
-  unfolding body caseFault tableFault patternsFault outside
+  unfolding body formFault tableFault patternsFault outside
   body-gives n h p n-some n-few h-some h-few =
       then-gives (rows-give s n n p [] (λ rest r. r)) (λ times a t.
       then-gives (bounds-give s n a) (λ start b u.
@@ -138,9 +144,12 @@ module _ (s : List ℕ) where
       body-gives n (m + 1) b (omega (arith, eqb-false)) (omega arith) (omega arith) (omega arith))))
 
   module _ (c : Case) (q : ℕ) (e : parse s ≡ got c q) where
-    -- a case that can be read has none of the faults 2 to 6
+    -- a case that can be read has none of the faults 2 to 6, and no strict bound
+    pub parsed-form : formFault c ≡ none
+    parsed-form = given parse-gives e
+
     pub parsed : caseFault c ≡ none
-    parsed = given parse-gives e
+    parsed = form-case c parsed-form
 
     -- so of the faults 2 to 10 a call on it can meet 9 and 10 alone
     pub parsed-call : (capacity size : ℕ) → callFault c capacity size ≡ roomFault (c .n) capacity size

@@ -84,7 +84,7 @@ module _ (s t : List ℕ) (top : ℕ) (long : top ≤ 8 * length s) (long' : top
 
   bounds-agree : (n p : ℕ) → p + patternSize n * suc boundWidth ≤ top → Agree (p + patternSize n * suc boundWidth) (bounds s n p) (bounds t n p)
   unfolding bounds
-  bounds-agree n p h = entries-agree boundWidth boundLimit fault.Bound (patternSize n) p [] h
+  bounds-agree n p h = agree-then (entries-agree boundWidth boundLimit fault.Bound (patternSize n) p [] h) (λ es q l. value l)
 
   zeros-agree : (k p : ℕ) → p + k ≤ top → Agree (p + k) (zeros s k p) (zeros t k p)
   unfolding zeros

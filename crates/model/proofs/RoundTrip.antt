@@ -10,27 +10,25 @@ use lib.Dec.{eqb}
 use lib.ListN.{length, take, drop, replicate, length-append, length-map, length-drop}
 use lib.Seq.{take-at, take-add, length-take-le}
 use borrow.Author.Tests.{ne-eqb}
-use Rattle.model.specs.Sizes.{timeLimit, boundLimit, tableSize, patternSize, departuresWidth, horizonWidth, timeWidth, boundWidth}
+use Rattle.model.specs.Sizes.{timeLimit, tableSize, patternSize, departuresWidth, horizonWidth, timeWidth}
 use Rattle.model.specs.declared.Slot.{Slot}
+use Rattle.model.specs.declared.Limit.{Limit}
 use Rattle.model.specs.declared.Case.{Case}
 use Rattle.model.specs.declared.Fault.the-variants as fault
 use Rattle.model.specs.Lists.{padded}
 use Rattle.model.specs.Network.{regular}
-use Rattle.model.specs.Faults.{timeOf, outside, tableFault, patternsFault, caseFault}
-use Rattle.model.specs.Packed.{got, rows, bounds, caseOf, body, parse}
+use Rattle.model.specs.Faults.{timeOf, outside, tableFault, patternsFault, formFault}
+use Rattle.model.specs.Packed.{got, rows, caseOf, body, parse}
 use Rattle.model.specs.Writing.{fieldBits, Kind, timeKind, boundKind, entriesBits, allBounds, caseBits, tidy, tidied, Whole}
 use Rattle.model.proofs.Limits.{RowsInLimit, no-row, row, no-fault}
 use Rattle.model.proofs.Parsed.{Gives, value, no-value, test-gives, then-gives}
 use Rattle.model.proofs.Spelled.{Spells, end, ends, join, split, bits-of, bits-spell}
-use Rattle.model.proofs.Inverse.{Lawful, bits-append, entries-split, slot-lawful, slots-of, slots-spell}
+use Rattle.model.proofs.Inverse.{Lawful, bits-append, entries-split, slot-lawful, slots-of, slots-spell, bounds-of, bounds-spell}
 use Rattle.model.proofs.Bytes.{missing, filled, fill-of, fill-spells}
 
--- times and bounds are in what their widths hold
+-- times are in what their width holds
 time-lawful : Lawful timeKind
 time-lawful = slot-lawful (timeWidth - 1) timeLimit fault.Time (omega arith)
-
-bound-lawful : Lawful boundKind
-bound-lawful = slot-lawful (boundWidth - 1) boundLimit fault.Bound (omega arith)
 
 -- what is said of an absent entry whatever its value is said of entries without the values that are ignored
 module _ {A Y : Type 0} (k : Kind A) (g : A → Y) (absent : (e : A) → k .has e ≡ false → g (k .absent) ≡ g e) where
@@ -81,7 +79,7 @@ module _ (s : List ℕ) (n : ℕ) where
 
 -- ---- the case
 -- the bits of a case that is made of lists of the right length
-made : (n m : ℕ) (times start target : List Slot) → length times ≡ tableSize n → length start ≡ patternSize n → length target ≡ patternSize n
+made : (n m : ℕ) (times : List Slot) (start target : List Limit) → length times ≡ tableSize n → length start ≡ patternSize n → length target ≡ patternSize n
     → caseBits (caseOf n (m + 1) times start target)
     ≡ fieldBits departuresWidth n ++ fieldBits horizonWidth m ++ entriesBits timeKind times ++ (entriesBits boundKind start ++ entriesBits boundKind target)
 unfolding caseBits
@@ -91,8 +89,8 @@ made n m times start target t u v =
 
 module _ (s : List ℕ) where
   -- the bits of a case are read as the case without what is ignored
-  pub parse-of : (c : Case) → caseFault c ≡ none → Whole c → Spells s 0 (filled (caseBits c)) (8 * length s) → parse s ≡ got (tidied c) (8 * length s)
-  unfolding caseFault tableFault patternsFault outside parse body bounds caseBits tidied
+  pub parse-of : (c : Case) → formFault c ≡ none → Whole c → Spells s 0 (filled (caseBits c)) (8 * length s) → parse s ≡ got (tidied c) (8 * length s)
+  unfolding formFault tableFault patternsFault outside parse body caseBits tidied
   parse-of c h whole r =
       let facts = simp no-fault at h in
       let n = c .n in
@@ -112,19 +110,19 @@ module _ (s : List ℕ) where
         bits-of s horizonWidth d (c .horizon .0 - 1) (omega arith) horizon,
         one-less,
         rows-of s n [] (facts .0 .1 .1) (whole .times) times,
-        slots-of boundWidth boundLimit fault.Bound bound-lawful s size (c .start) (whole .start) (facts .1 .0) start,
-        slots-of boundWidth boundLimit fault.Bound bound-lawful s size (c .target) (whole .target) (facts .1 .1) target,
+        bounds-of s n (c .start) (whole .start) (facts .1 .0) start,
+        bounds-of s n (c .target) (whole .target) (facts .1 .1) target,
         fill-of s f in-front zeros,
       )
 
   -- what is read behind the two numbers is written behind them
   body-spells : (n m p : ℕ) → Spells s 0 (fieldBits departuresWidth n ++ fieldBits horizonWidth m) p
       → Gives (λ c q. Spells s 0 (filled (caseBits c)) (8 * length s)) (body s n (m + 1) p)
-  unfolding body bounds entriesBits flatMap
+  unfolding body entriesBits flatMap
   body-spells n m p head =
       then-gives (rows-spell s n (tableSize n) n p p [] (end p (omega (arith, ends head))) (omega arith)) (λ times a t.
-      then-gives (slots-spell boundWidth boundLimit fault.Bound bound-lawful s (patternSize n) a (omega (arith, ends (t .0)))) (λ start b u.
-      then-gives (slots-spell boundWidth boundLimit fault.Bound bound-lawful s (patternSize n) b (omega (arith, ends (u .0)))) (λ target c v.
+      then-gives (bounds-spell s n a (omega (arith, ends (t .0)))) (λ start b u.
+      then-gives (bounds-spell s n b (omega (arith, ends (u .0)))) (λ target c v.
       then-gives (fill-spells s c (join (join head (t .0)) (join (u .0) (v .0)))) (λ z d r.
       value {q = d} (rw (made n m times start target (t .1) (u .1) (v .1)) r)))))
 

@@ -5,9 +5,10 @@ use mathlib.Core.Bool.{Bool, true, false, _&&_}
 use lib.IntN.{ℤ}
 use lib.Signed.{leZ}
 use Rattle.ints.proofs.Integers.{ints}
+use Rattle.model.proofs.Bounds.{same-halves}
 use Rattle.model.specs.Lists.{sameLists}
 use Rattle.model.specs.Bound as B
-use Rattle.model.specs.Bound.{Bound, most, sameZ, sameBound}
+use Rattle.model.specs.Bound.{Bound, upto, halves, sameZ, sameBound}
 use Rattle.model.specs.Matrix.{Matrix, sameMatrix}
 use Rattle.model.specs.Network.{Time, blank, secs, sameTime}
 
@@ -44,14 +45,14 @@ sameZ-refl a = let e : leZ a a ≡ true = omega ints in rw e
 pub sameBound-true : (b c : Bound) → sameBound b c ≡ true → b ≡ c
 unfolding sameBound
 sameBound-true B.Bound.none B.Bound.none e = refl
-sameBound-true B.Bound.none (most c) e = cc
-sameBound-true (most b) B.Bound.none e = cc
-sameBound-true (most b) (most c) e = ap most (sameZ-true b c e)
+sameBound-true B.Bound.none (upto t c) e = cc
+sameBound-true (upto s b) B.Bound.none e = cc
+sameBound-true (upto s b) (upto t c) e = same-halves (sameZ-true (halves s b) (halves t c) e)
 
 pub sameBound-refl : (b : Bound) → sameBound b b ≡ true
 unfolding sameBound
 sameBound-refl B.Bound.none = refl
-sameBound-refl (most b) = sameZ-refl b
+sameBound-refl (upto s b) = sameZ-refl (halves s b)
 
 pub sameTime-true : (t u : Time) → sameTime t u ≡ true → t ≡ u
 unfolding sameTime

@@ -1,27 +1,35 @@
 -- The search, cycle by cycle: what list k settles, when the target is met, and how the search ends.
 use Prim.Native.Nat.{ℕ, zero, suc, _+_, _-_, _≤_, _<_, min}
 use native.Mathlib.Omega.{arith}
-use mathlib.Core.Path.{_≡_, refl, ap, _∙_}
+use mathlib.Core.Path.{_≡_, refl, sym, ap, _∙_}
 use mathlib.Core.Bool.{Bool, true, false, cond, _||_}
-use mathlib.Core.List.{List, [], _∷_}
+use mathlib.Core.List.{List, [], _∷_, map}
 use mathlib.Core.Option.{Option, none, some, Option·map}
 use borrow.Author.Tests.{ltb-true, ltb-false, leb-true, leb-false}
 use lib.ListN.{length}
 use lib.Dec.{ltb, leb}
 use Rattle.ints.proofs.Integers.{impossible}
+use Rattle.model.specs.Sizes.{mostDepartures}
 use Rattle.model.specs.Lists.{when, orElse, Every, done, both, Some, here, there}
-use Rattle.model.specs.Bound.{Bound}
+use Rattle.model.specs.Bound.{Bound, scale}
 use Rattle.model.specs.Matrix.{Matrix}
 use Rattle.model.specs.Pattern.{onlyDifferences}
-use Rattle.model.specs.Network.{Network, clocked, Repeat, repeatOf}
-use Rattle.model.specs.Search.{lists, previous, common, firstCommon, pick, Outcome, reached, clear, never, tableFull}
+use Rattle.model.specs.Network.{Network, inParts, clocked, Repeat, repeatOf}
+use Rattle.model.specs.Search.{lists, previous, common, firstCommon, someStrict, partsOf, startIn, Outcome, reached, clear, never, tableFull}
 use Rattle.model.specs.Search.{boundTooLarge, Plan, planWith, plan, someLarge, settled, dry, searchBy, searchFrom, outcome}
 use Rattle.model.specs.Demands.{Witness, Met, Differences}
-use Rattle.model.specs.Conditions.{Regular}
-use Rattle.model.proofs.Listed.{one-more, some-map, some-at, every-some}
+use Rattle.model.specs.Conditions.{Regular, Closed}
+use Rattle.model.proofs.Bounds.{Plain}
+use Rattle.model.proofs.Listed.{one-more, some-map, some-at, every-some, in-map, of-map}
 use Rattle.model.proofs.Patterns.{common-some, common-none}
 use Rattle.model.proofs.ZoneLists.{lists-closed, list-in}
-use Rattle.model.proofs.Start.{pick-length, pick-member}
+use Rattle.model.proofs.Mapped.{map-closed}
+use Rattle.model.proofs.Inner.{scaling}
+use Rattle.model.proofs.Unique.{scaled}
+use Rattle.model.proofs.Zones.{zoneParts}
+use Rattle.model.proofs.Parts.{regular-parts, common-parts, lists-parts}
+use Rattle.model.proofs.Plain.{lists-plain, common-plain}
+use Rattle.model.proofs.Wholes.{Enough, rows-enough, one-enough, start-length, start-member}
 
 -- ---- the first zone that has something in common with a pattern
 module _ (n : ℕ) (b : List Bound) where
@@ -45,32 +53,81 @@ module _ (n : ℕ) (b : List Bound) where
       go (some d) h e rest = impossible cc
       go none h e rest = both h (rest e)
 
+-- ---- what list k has in common with the start
+-- c is what the zone of list k has in common with the start
+pub record Common (w : Network) (k : ℕ) (c : Matrix) : Type 0 where
+  pub zone : Matrix
+  pub there : Some (λ y. y ≡ zone) (lists w k)
+  pub is : common (w .n) zone (w .start) ≡ some c
+  pub closed-zone : Closed (suc (w .n)) zone
+
+pub parts-some : (w : Network) → 1 ≤ partsOf w
+unfolding partsOf
+parts-some w = elim (someStrict w) as (λ t. 1 ≤ cond t (suc (w .n)) 1) [ true ↦ omega arith | false ↦ omega arith ]
+
+pub parts-few : (w : Network) → w .n ≤ mostDepartures → partsOf w ≤ suc mostDepartures
+unfolding partsOf
+parts-few w h = elim (someStrict w) as (λ t. cond t (suc (w .n)) 1 ≤ suc mostDepartures) [ true ↦ omega arith | false ↦ omega arith ]
+
+module _ (w : Network) (k : ℕ) where
+  pub first-common : {c : Matrix} → firstCommon (w .n) (w .start) (lists w k) ≡ some c → Common w k c
+  first-common e =
+      let (z, (cl, h), at) = some-at (every-some (lists-closed w k) (first-some (w .n) (w .start) (lists w k) e)) in
+      record { zone = z; there = at; is = h; closed-zone = cl }
+
+  -- without strict bounds it has none
+  pub common-is-plain : {c : Matrix} → someStrict w ≡ false → Common w k c → Every Plain c
+  common-is-plain {c} e f =
+      let (z, (p, q), at) = some-at (every-some (lists-plain w e k) (f .there)) in
+      common-plain w e (rw q at p) c (f .is)
+
+  -- so the parts of the start are enough for it
+  pub parts-enough : {c : Matrix} → Common w k c → Enough (suc (w .n)) (partsOf w) c
+  unfolding partsOf
+  parts-enough {c} f = go (someStrict w) refl
+    where
+      cl : Closed (suc (w .n)) c
+      cl = common-some (f .closed-zone) (w .start) (f .is) .0
+
+      go : (t : Bool) → someStrict w ≡ t → Enough (suc (w .n)) (cond t (suc (w .n)) 1) c
+      go true e = rows-enough (suc (w .n)) c (omega arith) cl
+      go false e = one-enough (suc (w .n)) c cl (common-is-plain e f)
+
 -- ---- the target is met at cycle k exactly if list k has something in common with the start
 module _ (w : Network) (reg : Regular (w .n) (w .times)) (k : ℕ) where
-  pub met-by : {c : Matrix} → firstCommon (w .n) (w .start) (lists w k) ≡ some c → Witness w k (pick (w .n) c)
+  pub met-by : {c : Matrix} → firstCommon (w .n) (w .start) (lists w k) ≡ some c → Witness (inParts (partsOf w) w) k (startIn (w .n) (partsOf w) c)
+  unfolding inParts
   met-by {c} e =
-      let (z, (cl, h), at) = some-at (every-some (lists-closed w k) (first-some (w .n) (w .start) (lists w k) e)) in
-      let (closed, same) = common-some cl (w .start) h in
-      let (mem, start) = same (clocked (pick (w .n) c)) .0 (pick-member closed) in
+      let f = first-common w k e in
+      let parts = partsOf w in
+      let some-parts = parts-some w in
+      let xs = startIn (w .n) parts c in
+      let cl = map-closed (scaling parts some-parts) (f .closed-zone) in
+      let in-common = sym (common-parts parts some-parts (w .n) (f .zone) (w .start)) ∙ ap (zoneParts parts) (f .is) in
+      let (closed, same) = common-some cl (map (scale parts) (w .start)) in-common in
+      let (mem, start) = same (clocked xs) .0 (start-member (w .n) parts c (parts-enough w k f)) in
       record {
-        size = pick-length (w .n) c;
+        size = start-length (w .n) parts c (parts-enough w k f);
         started = start;
-        arrived = list-in w reg k (pick (w .n) c) .0 (some-map (λ y q. rw q mem) at);
+        arrived = list-in (inParts parts w) (regular-parts parts (w .n) (w .times) reg) k xs .0
+            (rw (lists-parts parts some-parts w k) (in-map (scaled parts) (some-map (λ y q. rw q mem) (f .there))));
       }
 
   pub unmet : firstCommon (w .n) (w .start) (lists w k) ≡ none → Met w k → ⊥
-  unmet e m =
-      let (xs, s) = m in
+  unfolding inParts
+  unmet e (parts, some-parts, xs, s) =
       let nothing = first-none (w .n) (w .start) (lists w k) e in
-      let (z, (cl, (h, mem)), at) = some-at (every-some (lists-closed w k) (every-some nothing (list-in w reg k xs .1 (s .arrived)))) in
-      common-none cl (w .start) h (clocked xs) mem (s .started)
+      let arrived = rw (lists-parts parts some-parts w k) at (list-in (inParts parts w) (regular-parts parts (w .n) (w .times) reg) k xs .1 (s .arrived)) in
+      let (z, (cl, (apart, mem)), at) = some-at (every-some (lists-closed w k) (every-some nothing (of-map (scaled parts) (lists w k) arrived))) in
+      let nothing-in-parts = sym (common-parts parts some-parts (w .n) z (w .start)) ∙ ap (zoneParts parts) apart in
+      common-none (map-closed (scaling parts some-parts) cl) (map (scale parts) (w .start)) nothing-in-parts (clocked xs) mem (s .started)
 
 -- ---- what list k settles
 pub data Settled (w : Network) (capacity k : ℕ) (zs : List Matrix) : Option Outcome → Type 0 where
   full : capacity < length zs → Settled w capacity k zs (some (tableFull k))
   large : length zs ≤ capacity → someLarge zs ≡ true → Settled w capacity k zs (some (boundTooLarge k))
   met : {c : Matrix} → length zs ≤ capacity → someLarge zs ≡ false → firstCommon (w .n) (w .start) zs ≡ some c
-      → Settled w capacity k zs (some (reached k (pick (w .n) c)))
+      → Settled w capacity k zs (some (reached k (partsOf w) (startIn (w .n) (partsOf w) c)))
   unsettled : length zs ≤ capacity → someLarge zs ≡ false → firstCommon (w .n) (w .start) zs ≡ none → Settled w capacity k zs none
 
 pub settled-is : (w : Network) (capacity k : ℕ) (zs : List Matrix) → Settled w capacity k zs (settled w capacity k zs)
@@ -78,7 +135,8 @@ unfolding settled
 settled-is w capacity k zs = go (ltb capacity (length zs)) (someLarge zs) (firstCommon (w .n) (w .start) zs) refl refl refl
   where
     go : (s t : Bool) (o : Option Matrix) → ltb capacity (length zs) ≡ s → someLarge zs ≡ t → firstCommon (w .n) (w .start) zs ≡ o
-        → Settled w capacity k zs (orElse (when s (tableFull k)) (orElse (when t (boundTooLarge k)) (Option·map (λ c. reached k (pick (w .n) c)) o)))
+        → Settled w capacity k zs (orElse (when s (tableFull k)) (orElse (when t (boundTooLarge k))
+        (Option·map (λ c. reached k (partsOf w) (startIn (w .n) (partsOf w) c)) o)))
     go true t o e f g = full (omega (arith, ltb-true))
     go false true o e f g = large (omega (arith, ltb-false)) f
     go false false (some c) e f g = met (omega (arith, ltb-false)) f g

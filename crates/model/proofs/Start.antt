@@ -1,5 +1,5 @@
--- The start that is picked: it is a member of its zone, and each departure has the greatest time possible, given those before it;
--- if there is no greatest, the least; if neither, 0. No time is larger than n of the zone's finite bounds.
+-- The start that is picked in a zone without strict bounds: it is a member of the zone, and each departure has the greatest time possible,
+-- given those before it; if there is no greatest, the least; if neither, 0. No time is larger than n of the zone's finite bounds.
 use Prim.Native.Nat.{ℕ, zero, suc, _+_, _*_, _≤_, _<_}
 use native.Mathlib.Omega.{arith}
 use native.Mathlib.Decide.{ℕ-discrete}
@@ -13,23 +13,23 @@ use lib.Seq.{getD-append-seam, getD-drop}
 use Rattle.ints.proofs.Integers.{ints, add-ud, sub-ud, neg-ud}
 use Rattle.model.specs.Lists.{tabulate, Every}
 use Rattle.model.specs.Bound as B
-use Rattle.model.specs.Bound.{Bound, most, any, Holds, plus, tighter}
+use Rattle.model.specs.Bound.{Bound, most, any, Holds, plus}
 use Rattle.model.specs.Matrix.{Matrix, Member}
 use Rattle.model.specs.Network.{clocked}
 use Rattle.model.specs.Search.{tightest, above, below, greatestOr, choices, pick}
 use Rattle.model.specs.Conditions.{Closed, howLate, howEarly, Small, free, Bounded}
-use Rattle.model.proofs.Bounds.{bounds, leB-refl, leB-trans, holds-sum, between, tighter-left, tighter-right}
+use Rattle.model.proofs.Bounds.{bounds, Plain, unbounded, at-most, leB-refl, leB-trans, holds-sum, between, tighter-either, tighter-left, tighter-right}
 use Rattle.model.proofs.Listed.{one-more, every-getD}
 use Rattle.model.proofs.Tabulated.{tabulate-ext}
-use Rattle.model.proofs.Attained.{tightestOf-either, Upto, Possible, next-time, upto-next, takes-next}
+use Rattle.model.proofs.Attained.{AllPlain, tightestOf-either, Upto, Possible, late-plain, early-plain, next-time, upto-next, takes-next}
 use Rattle.model.proofs.Size.{small-mono, term-small, neg-small, taken-small}
 
 -- where any time is between two bounds, the one taken is
-taken-between : (w u : Bound) (v : ℤ) → Holds v u → Holds (negℤ v) w → Holds (greatestOr w u) u × Holds (negℤ (greatestOr w u)) w
+taken-between : {w u : Bound} → Plain w → Plain u → (v : ℤ) → Holds v u → Holds (negℤ v) w → Holds (greatestOr w u) u × Holds (negℤ (greatestOr w u)) w
 unfolding greatestOr
-taken-between w (most c) v hu hw = (leB-refl (most c), leB-trans (omega (bounds, neg-ud c, neg-ud v)) hw)
-taken-between (most b) B.Bound.none v hu hw = (any, omega (bounds, neg-ud b, neg-ud (negℤ b)))
-taken-between B.Bound.none B.Bound.none v hu hw = (any, any)
+taken-between p (at-most {b = c}) v hu hw = (leB-refl (most c), leB-trans (omega (bounds, neg-ud c, neg-ud v)) hw)
+taken-between (at-most {b}) unbounded v hu hw = (any, omega (bounds, neg-ud b, neg-ud (negℤ b)))
+taken-between unbounded unbounded v hu hw = (any, any)
 
 -- the times of a list
 abbrev at : List ℤ → ℕ → ℤ
@@ -143,14 +143,16 @@ pub data Picked (n : ℕ) (z : Matrix) (i : ℕ) (v : ℤ) : Type 0 where
   least : NoGreatest n z i → ((x : ℕ → ℤ) → Agrees n z i x → v ≤ℤ x (suc i)) → Picked n z i v
   neither : NoGreatest n z i → NoLeast n z i → v ≡ pos 0 → Picked n z i v
 
-module _ {n : ℕ} {z : Matrix} (cl : Closed (suc n) z) where
+module _ {n : ℕ} {z : Matrix} (cl : Closed (suc n) z) (plain : AllPlain (suc n) z) where
   -- the times picked keep to the bounds among them, one by one
   pick-upto : (t : ℕ) → t ≤ suc n → Upto (suc n) z t (picked n z)
   pick-upto zero h = λ i j hi hj. absurd (omega arith)
   pick-upto (suc t) h =
       let ok = pick-upto t (omega arith) in
-      let (v, f) = next-time (suc n) z cl t (picked n z) h ok in
-      upto-next (suc n) z cl t (picked n z) h ok (picked n z) (λ s k. refl) (rw (picked-taken n z t h) (taken-between _ _ v (f .0) (f .1)))
+      let (v, f) = next-time (suc n) z cl plain t (picked n z) h ok in
+      let late = late-plain (suc n) z cl plain t (picked n z) h ok in
+      let early = early-plain (suc n) z cl plain t (picked n z) h ok in
+      upto-next (suc n) z cl plain t (picked n z) h ok (picked n z) (λ s k. refl) (rw (picked-taken n z t h) (taken-between early late v (f .0) (f .1)))
 
   -- the start picked is a member of the zone
   pub pick-member : Member (suc n) z (clocked (pick n z))
@@ -164,20 +166,26 @@ module _ {n : ℕ} {z : Matrix} (cl : Closed (suc n) z) where
     abbrev late : Bound
     late = howLate (suc n) z (suc i) (picked n z)
 
+    early-is : Plain early
+    early-is = early-plain (suc n) z cl plain (suc i) (picked n z) (omega arith) (pick-upto (suc i) (omega arith))
+
+    late-is : Plain late
+    late-is = late-plain (suc n) z cl plain (suc i) (picked n z) (omega arith) (pick-upto (suc i) (omega arith))
+
     -- a member that agrees has a possible time for departure i + 1, and each possible time is that of one
     possible : (x : ℕ → ℤ) → Agrees n z i x → Possible (suc n) z (suc i) (picked n z) (x (suc i))
     possible x a = member-possible (suc n) z (suc i) (picked n z) x (omega arith) (a .member) (λ s l. a .chosen s (omega arith))
 
     agreeing : (v : ℤ) → Holds v late → Holds (negℤ v) early → (x : ℕ → ℤ) × Agrees n z i x × x (suc i) ≡ v
     agreeing v hu hw =
-        let (x, mem, same, e) = takes-next (suc n) z cl (suc i) (picked n z) (omega arith) (pick-upto (suc i) (omega arith)) v (hu, hw) in
+        let (x, mem, same, e) = takes-next (suc n) z cl plain (suc i) (picked n z) (omega arith) (pick-upto (suc i) (omega arith)) v (hu, hw) in
         (x, record { member = mem; chosen = λ j l. same j (omega arith) }, e)
 
     -- with no bound on how late there is no greatest time, and with none on either side no least
     no-greatest : late ≡ B.Bound.none → NoGreatest n z i
     unfolding plus
     no-greatest f u =
-        let (v, w, hv) = between B.Bound.none (tighter (most (negℤ u)) early) any in
+        let (v, w, hv) = between unbounded (tighter-either Plain (most (negℤ u)) early at-most early-is) any in
         let (x, a, q) = agreeing v (rw f any) (leB-trans hv (tighter-right (most (negℤ u)) early)) in
         let k = leB-trans hv (tighter-left (most (negℤ u)) early) in
         (x, a, omega (bounds, neg-ud u, neg-ud v))
@@ -186,12 +194,12 @@ module _ {n : ℕ} {z : Matrix} (cl : Closed (suc n) z) where
     no-least e f u = let (x, a, q) = agreeing u (rw f any) (rw e any) in (x, a, omega ints)
 
     -- the rule, by these two bounds
-    rule : (w u : Bound) → early ≡ w → late ≡ u → Picked n z i (greatestOr w u)
+    rule : {w u : Bound} → Plain w → Plain u → early ≡ w → late ≡ u → Picked n z i (greatestOr w u)
     unfolding greatestOr
-    rule w (most c) e f = greatest (λ x a. let k = rw f at (possible x a .0) in omega bounds)
-    rule (most b) B.Bound.none e f = least (no-greatest f) (λ x a. let k = rw e at (possible x a .1) in omega (bounds, neg-ud b, neg-ud (x (suc i))))
-    rule B.Bound.none B.Bound.none e f = neither (no-greatest f) (no-least e f) refl
+    rule p (at-most {b = c}) e f = greatest (λ x a. let k = rw f at (possible x a .0) in omega bounds)
+    rule (at-most {b}) unbounded e f = least (no-greatest f) (λ x a. let k = rw e at (possible x a .1) in omega (bounds, neg-ud b, neg-ud (x (suc i))))
+    rule unbounded unbounded e f = neither (no-greatest f) (no-least e f) refl
 
     -- each departure is picked by the rule
     pub pick-rule : Picked n z i (clocked (pick n z) (suc i))
-    pick-rule = rw (picked-taken n z (suc i) (omega arith)) (rule early late refl refl)
+    pick-rule = rw (picked-taken n z (suc i) (omega arith)) (rule early-is late-is refl refl)

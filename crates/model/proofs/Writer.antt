@@ -19,16 +19,16 @@ use Rattle.model.specs.Lists.{Every, done, both}
 use Rattle.model.specs.Network.{Network}
 use Rattle.model.specs.Search.{outcome}
 use Rattle.model.specs.Conditions.{Departures}
-use Rattle.model.specs.Faults.{timeOf, boundOf, network, outside, tableFault, caseFault, callFault}
+use Rattle.model.specs.Faults.{timeOf, boundOf, network, outside, tableFault, formFault, caseFault, callFault}
 use Rattle.model.specs.Packed.{got, parse}
 use Rattle.model.specs.Answers.{refusal, answered, answer, answerPacked, workspaceAfter, workspaceAfterPacked, unpacked}
 use Rattle.model.specs.Writing.{fieldBits, bytesOf, Kind, timeKind, boundKind, entryBits, entriesBits, Whole}
 use Rattle.model.specs.Writing.{allBounds, caseBits, packedBytes, tidied, roomFor, writeFault, told, outputAfter}
 use Rattle.model.proofs.Listed.{every-append, every-tabulate, every-all, flatMap-every, at-getD}
 use Rattle.model.proofs.Places.{table-fits, pattern-fits}
-use Rattle.model.proofs.Limits.{orElse-none, no-fault}
+use Rattle.model.proofs.Limits.{orElse-none, no-fault, form-case}
 use Rattle.model.proofs.Digits.{num-below}
-use Rattle.model.proofs.Parsed.{given, parsed, parsed-call}
+use Rattle.model.proofs.Parsed.{given, parsed-form, parsed-call}
 use Rattle.model.proofs.Spelled.{length-field}
 use Rattle.model.proofs.Bytes.{length-bytes, bytes-spell, bytes-of}
 use Rattle.model.proofs.RoundTrip.{padded-same, parse-of, parse-spells}
@@ -96,7 +96,7 @@ reproduces s small c q e = bytes-of s (caseBits c) small (given (parse-spells s)
 -- and meets no fault but an output that is too short for them
 pub write-back : (s : List ℕ) → Every (λ b. b < 256) s → (c : Case) (q : ℕ) → parse s ≡ got c q → (size : ℕ) → writeFault c size ≡ roomFor s size
 unfolding writeFault
-write-back s small c q e size = rw (parsed s c q e, reproduces s small c q e)
+write-back s small c q e size = rw (parsed-form s c q e, reproduces s small c q e)
 
 -- a case has one encoding
 pub one-encoding : (s t : List ℕ) → Every (λ b. b < 256) s → Every (λ b. b < 256) t → (c : Case) (q r : ℕ) → parse s ≡ got c q → parse t ≡ got c r → s ≡ t
@@ -112,7 +112,7 @@ network-tidied c whole = rw (
   padded-same boundKind boundOf (λ e h. rw h) mostBounds (patternSize (c .n)) (c .target) (whole .target),
 )
 
-module _ (c : Case) (h : caseFault c ≡ none) (whole : Whole c) where
+module _ (c : Case) (h : formFault c ≡ none) (whole : Whole c) where
   -- it restores the case up to what is ignored
   pub restores : parse (packedBytes c) ≡ got (tidied c) (8 * length (packedBytes c))
   unfolding packedBytes
@@ -121,7 +121,7 @@ module _ (c : Case) (h : caseFault c ≡ none) (whole : Whole c) where
   -- a call on what is restored meets the faults of a call on the case
   call-tidied : (capacity size : ℕ) → callFault (tidied c) capacity size ≡ callFault c capacity size
   unfolding callFault tidied
-  call-tidied capacity size = parsed-call (packedBytes c) (tidied c) _ restores capacity size ∙ rw h
+  call-tidied capacity size = parsed-call (packedBytes c) (tidied c) _ restores capacity size ∙ rw (form-case c h)
 
   -- so the verdict is that on the case
   pub written-verdict : (capacity size : ℕ) → answerPacked (packedBytes c) capacity size ≡ answer c capacity size
@@ -148,5 +148,5 @@ read-back c whole out count = go (writeFault c (length out)) refl
     go none e t =
         let all : length (packedBytes c) ≡ count = cc in
         let sound = (simp orElse-none at e) .0 in
-        rw (take-at (packedBytes c) _ count all, restores c sound (whole sound))
+        rw (take-at (packedBytes c) _ count all, restores c sound (whole (form-case c sound)))
     go (some f) e t = impossible cc

@@ -17,7 +17,7 @@ use Rattle.model.specs.declared.Unpacked.{Unpacked}
 use Rattle.model.specs.declared.Run.{Run}
 use Rattle.model.specs.Sizes.{mostDepartures}
 use Rattle.model.specs.Lists.{padded}
-use Rattle.model.specs.Network.{cycles}
+use Rattle.model.specs.Network.{inParts, cycles}
 use Rattle.model.specs.Search.{Outcome, reached, clear, never, tableFull, boundTooLarge, outcome}
 use Rattle.model.specs.Faults.{number, returned, network, callFault, runFault}
 use Rattle.model.specs.Packed.{Reading, got, refused, parse, caseOf}
@@ -46,12 +46,12 @@ numbersOf (verdict.Clear k) = record { kind = 2; fault = 0; value = k .0 }
 numbersOf verdict.Never = record { kind = 3; fault = 0; value = 0 }
 
 abbrev pub refusal : Fault → Answer
-refusal f = record { verdict = verdict.Refused f; start = allTimes [] }
+refusal f = record { verdict = verdict.Refused f; parts = 0; start = allTimes [] }
 
 abbrev pub answered : Outcome → Answer
-answered (reached k xs) = record { verdict = verdict.Reached (cycleNumber k); start = allTimes xs }
-answered (clear k) = record { verdict = verdict.Clear (cycleNumber k); start = allTimes [] }
-answered never = record { verdict = verdict.Never; start = allTimes [] }
+answered (reached k parts xs) = record { verdict = verdict.Reached (cycleNumber k); parts = parts; start = allTimes xs }
+answered (clear k) = record { verdict = verdict.Clear (cycleNumber k); parts = 0; start = allTimes [] }
+answered never = record { verdict = verdict.Never; parts = 0; start = allTimes [] }
 answered (tableFull k) = refusal (fault.TableFull (cycleNumber k))
 answered (boundTooLarge k) = refusal (fault.BoundTooLarge (cycleNumber k))
 
@@ -80,9 +80,13 @@ unpacked (got c q) = record { judged = judged.Accepted; case = c }
 unpacked (refused f) = record { judged = judged.Refused f; case = caseOf 0 0 [] [] [] }
 
 -- a run: the times of cycle k from the start times xs on
+abbrev pub ran : Option Fault → List ℤ → Run
+ran (some f) ts = record { judged = judged.Refused f; times = allTimes [] }
+ran none ts = record { judged = judged.Accepted; times = allTimes ts }
+
 unfoldable pub run : Case → List Seconds → ℕ → Run
-run c xs k =
-    elim (runFault c xs k) [
-      | some f ↦ record { judged = judged.Refused f; times = allTimes [] }
-      | none ↦ record { judged = judged.Accepted; times = allTimes (cycles (c .n) (network c .times) k (map (λ x. x .0) (take (c .n) xs))) }
-    ]
+run c xs k = ran (runFault c xs k) (cycles (c .n) (network c .times) k (map (λ x. x .0) (take (c .n) xs)))
+
+-- the same in parts, of which parts make a second: the start times are in parts, and so are those of cycle k
+unfoldable pub runInParts : ℕ → Case → List Seconds → ℕ → Run
+runInParts parts c xs k = ran (runFault c xs k) (cycles (c .n) (inParts parts (network c) .times) k (map (λ x. x .0) (take (c .n) xs)))

@@ -67,8 +67,8 @@ vectors =
     ∷ []
 
 pub all-right : AllRight vectors
-unfolding anyOf isTime regular F.timeOf F.beyond F.entryFault F.rowsFault F.outside F.tableFault F.patternsFault F.caseFault F.roomFault F.callFault
-    answer workspaceAfter changed changeFault preview workspaceAfterPreview commitFault commit
+unfolding anyOf isTime regular F.timeOf F.beyond F.over F.boundFault F.entryFault F.rowsFault F.outside F.tableFault F.patternsFault F.caseFault F.roomFault
+    F.callFault answer workspaceAfter changed changeFault preview workspaceAfterPreview commitFault commit
 all-right = (
   λ capacity work. (refl, refl),
   (refl, (refl, (refl, (refl, (refl, (refl, (refl, (refl, (refl, (refl, ((refl, refl), ((refl, refl), ((refl, refl), ((refl, refl), tt)))))))))))))),

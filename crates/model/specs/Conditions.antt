@@ -1,20 +1,21 @@
 -- Conditions that the contracts inside the library name. The demands do not rest on them.
 use Prim.Native.Nat.{ℕ, zero, suc, _*_, _≤_, _<_}
 use mathlib.Core.Path.{_≡_}
-use mathlib.Core.List.{List, [], _∷_}
+use mathlib.Core.List.{List, [], _∷_, map}
 use mathlib.Core.Option.{Option, some}
-use mathlib.Core.Bool.{false}
+use mathlib.Core.Bool.{Bool, false, not, _&&_}
 use lib.IntN.{ℤ, pos, negℤ, natAbs, _+ℤ_}
 use lib.ListN.{length, getD}
 use Rattle.model.specs.declared.Slot.{Slot}
+use Rattle.model.specs.declared.Limit.{Limit}
 use Rattle.model.specs.Sizes.{mostDepartures, mostCycles, timeLimit, boundLimit}
 use Rattle.model.specs.Lists.{tabulate, Every}
-use Rattle.model.specs.Bound.{Bound, none, most, LeB, plus}
+use Rattle.model.specs.Bound.{Bound, none, upto, most, LeB, plus, scale}
 use Rattle.model.specs.Matrix.{Matrix, entry, Member, everything, Constraint, constrain, tighten}
 use Rattle.model.specs.Pattern.{pairBound, patternConstraints}
-use Rattle.model.specs.Network.{Time, secs, Network, time, next}
+use Rattle.model.specs.Network.{Time, secs, scaleTime, Network, time, next}
 use Rattle.model.specs.Search.{chosen, rowsConstraints, tightest}
-use Rattle.model.specs.Faults.{beyond}
+use Rattle.model.specs.Faults.{stated, beyond}
 
 -- ---- departures
 pub record Departures (n : ℕ) : Type 0 where
@@ -51,7 +52,7 @@ pub data Selection (n : ℕ) (a : List Time) : ℕ → ℕ → List ℕ → Type
 -- no bound, or one of at most B in size
 pub data Small (B : ℕ) : Bound → Type 0 where
   free : Small B none
-  sized : {z : ℤ} → natAbs z ≤ B → Small B (most z)
+  sized : {s : Bool} {z : ℤ} → natAbs z ≤ B → Small B (upto s z)
 
 -- times in their limit
 abbrev pub TimesSmall : ℕ → List Time → Type 0
@@ -78,6 +79,10 @@ pub record Limits (w : Network) : Type 0 where
 -- it is absent, or at most limit in size
 abbrev pub InLimit : ℕ → Slot → Type 0
 InLimit limit e = beyond limit e ≡ false
+
+-- of a bound: also, it is not strict where there is no place for a mark
+abbrev pub BoundInLimit : Bool → Limit → Type 0
+BoundInLimit marks e = InLimit boundLimit (stated e) × ((not marks && (e .has && e .strict)) ≡ false)
 
 -- each limit is at most B in size
 abbrev pub AllSmall : ℕ → List Constraint → Type 0
@@ -140,9 +145,11 @@ image n a x (suc i) = next n a x (suc i)
 abbrev pub sum : ℕ → List Time → (ℕ → ℤ) → ℕ → ℕ → ℤ
 sum n a x l s = x s +ℤ chosen n a l s
 
--- at all times of p these columns attain the images in the rows before i
+-- at all times of p, in all parts, these columns attain the images in the rows before i
 abbrev pub Imaged : ℕ → List Time → Matrix → List ℕ → ℕ → Type 0
-Imaged n a p cols i = (x : ℕ → ℤ) → Member (suc n) p x → (l : ℕ) → l < i → sum n a x l (getD cols l 0) ≡ image n a x l
+Imaged n a p cols i =
+    (parts : ℕ) → 1 ≤ parts → (x : ℕ → ℤ) → Member (suc n) (map (scale parts) p) x → (l : ℕ) → l < i
+    → let b = map (scaleTime parts) a in sum n b x l (getD cols l 0) ≡ image n b x l
 
 -- a set, with columns of rows 0 to i - 1 that attain the images
 pub record Before (n : ℕ) (a : List Time) (p : Matrix) (cols : List ℕ) (i : ℕ) : Type 0 where

@@ -14,8 +14,8 @@ use Rattle.model.specs.declared.Verdict.the-variants as verdict
 use Rattle.model.specs.declared.Answer.{Answer}
 use Rattle.model.specs.Sizes.{mostCycles}
 use Rattle.model.specs.Pattern.{InPattern, onlyDifferences}
-use Rattle.model.specs.Network.{Network, clocked, cycles, power, added, Repeat}
-use Rattle.model.specs.Search.{lists, someLarge, plan}
+use Rattle.model.specs.Network.{Network, inParts, clocked, cycles, power, added, Repeat}
+use Rattle.model.specs.Search.{lists, someLarge, partsOf, plan}
 use Rattle.model.specs.Faults.{network, callFault, roomFault}
 use Rattle.model.specs.Packed.{got, refused, parse}
 use Rattle.model.specs.Answers.{cycleNumber, Numbers, numbersOf, refusal, answer, workspaceAfter, answerPacked, workspaceAfterPacked}
@@ -43,9 +43,9 @@ pub record Witness (w : Network) (k : ℕ) (xs : List ℤ) : Type 0 where
   pub started : InPattern (w .n) (w .start) (clocked xs)
   pub arrived : InPattern (w .n) (w .target) (clocked (cycles (w .n) (w .times) k xs))
 
--- the target is met at cycle k
+-- the target is met at cycle k: for some number of parts from 1 up, from start times in these parts of a second
 abbrev pub Met : Network → ℕ → Type 0
-Met w k = (xs : List ℤ) × Witness w k xs
+Met w k = (parts : ℕ) × (1 ≤ parts) × (xs : List ℤ) × Witness (inParts parts w) k xs
 
 -- it is met at no cycle from 1 to k - 1
 abbrev pub NotBefore : Network → ℕ → Type 0
@@ -89,7 +89,8 @@ LargeAt w capacity k = EndsAt w capacity k × (length (lists w k) ≤ capacity) 
 pub record Demand2 (c : Case) (capacity : ℕ) (r : Answer) : Type 0 where
   pub first : (k : ℕ) → r .verdict ≡ verdict.Reached (cycleNumber k) → First (network c) k
   pub exactly : (EndsEarly (network c) capacity → ⊥) → (k : ℕ) → (r .verdict ≡ verdict.Reached (cycleNumber k)) ↔ First (network c) k
-  pub start : (k : ℕ) → r .verdict ≡ verdict.Reached (cycleNumber k) → Witness (network c) k (map (λ x. x .0) (take (c .n) (r .start)))
+  pub start : (k : ℕ) → r .verdict ≡ verdict.Reached (cycleNumber k)
+      → (r .parts ≡ partsOf (network c)) × Witness (inParts (r .parts) (network c)) k (map (λ x. x .0) (take (c .n) (r .start)))
   pub otherwise : (EndsEarly (network c) capacity → ⊥) → NotBefore (network c) (suc (c .horizon .0))
       → (r .verdict ≡ verdict.Clear (c .horizon)) ⊎ (r .verdict ≡ verdict.Never)
   pub full : (k : ℕ) → (r .verdict ≡ verdict.Refused (fault.TableFull (cycleNumber k))) ↔ FullAt (network c) capacity k

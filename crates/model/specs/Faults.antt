@@ -1,4 +1,4 @@
--- Document 01's faults, and 14 and 15 of requests [1] and [2]: their numbers, what they return, and the first one of an unpacked case, of a call and of
+-- Document 01's faults, and 14 to 16 of requests [1], [2] and [6]: their numbers, what they return, and the first one of an unpacked case, of a call and of
 -- a run.
 use Prim.Native.Nat.{ℕ, zero, suc, _+_}
 use lib.IntN.{ℤ, pos, natAbs}
@@ -9,13 +9,14 @@ use lib.ListN.{take, drop}
 use lib.Dec.{ltb}
 use Rattle.ints.specs.declared.Seconds.{Seconds}
 use Rattle.model.specs.declared.Slot.{Slot}
+use Rattle.model.specs.declared.Limit.{Limit}
 use Rattle.model.specs.declared.Case.{Case}
 use Rattle.model.specs.declared.Fault.{Fault}
 use Rattle.model.specs.declared.Fault.the-variants as fault
 use Rattle.model.specs.Sizes.{mostDepartures, mostCycles, mostZones, timeLimit, boundLimit, startLimit, tableSize, patternSize, workspaceSize}
 use Rattle.model.specs.Lists.{when, orElse}
 use Rattle.model.specs.Bound as B
-use Rattle.model.specs.Bound.{Bound, most}
+use Rattle.model.specs.Bound.{Bound, upto}
 use Rattle.model.specs.Network.{Time, blank, secs, Network, regular}
 
 -- the number and what is returned
@@ -35,6 +36,7 @@ code (fault.BoundTooLarge k) = (12, k .0)
 code (fault.StartTime i) = (13, i)
 code (fault.Output bytes) = (14, bytes)
 code fault.Entry = (15, 0)
+code (fault.Form p) = (16, p)
 
 abbrev pub number : Fault → ℕ
 number f = code f .0
@@ -42,18 +44,25 @@ number f = code f .0
 abbrev pub returned : Fault → ℕ
 returned f = code f .1
 
--- an entry as a time of the table, and as a bound of a pattern; a value marked absent is ignored
+-- an entry as a time of the table, and a bound of a pattern; a value marked absent is ignored, and so is its mark
 unfoldable pub timeOf : Slot → Time
 timeOf e = cond (e .has) (secs (e .value .0)) blank
 
-unfoldable pub boundOf : Slot → Bound
-boundOf e = cond (e .has) (most (e .value .0)) B.Bound.none
+unfoldable pub boundOf : Limit → Bound
+boundOf e = cond (e .has) (upto (e .strict) (e .value .0)) B.Bound.none
 
 abbrev pub nothing : Slot
 nothing = record { has = false; value = record { 0 = pos 0 } }
 
 abbrev pub present : ℤ → Slot
 present z = record { has = true; value = record { 0 = z } }
+
+-- a bound without its mark, and an entry as a bound that is not strict
+abbrev pub stated : Limit → Slot
+stated e = record { has = e .has; value = e .value }
+
+abbrev pub unmarked : Slot → Limit
+unmarked e = record { has = e .has; strict = false; value = e .value }
 
 -- the times of a table of n departures
 abbrev pub tableOf : ℕ → List Slot → List Time
@@ -72,16 +81,24 @@ network c = record {
 unfoldable pub beyond : ℕ → Slot → Bool
 beyond limit e = e .has && ltb limit (natAbs (e .value .0))
 
--- the first entry beyond the limit, the entries being numbered from p on
-unfoldable pub entryFault : ℕ → (ℕ → Fault) → ℕ → List Slot → Option Fault
-entryFault limit f p [] = none
-entryFault limit f p (e ∷ es) = orElse (when (beyond limit e) (f p)) (entryFault limit f (suc p) es)
+-- a fault of the entry at p: it is beyond the limit
+unfoldable pub over : ℕ → (ℕ → Fault) → ℕ → Slot → Option Fault
+over limit f p e = when (beyond limit e) (f p)
+
+-- of the bound at p: 6, then 16 if it is strict where there is no place for a mark
+unfoldable pub boundFault : Bool → ℕ → Limit → Option Fault
+boundFault marks p e = orElse (over boundLimit fault.Bound p (stated e)) (when (not marks && (e .has && e .strict)) (fault.Form p))
+
+-- the first fault of the entries, which are numbered from p on, by what judge says of each
+unfoldable pub entryFault : {A : Type 0} → (ℕ → A → Option Fault) → ℕ → List A → Option Fault
+entryFault judge p [] = none
+entryFault judge p (e ∷ es) = orElse (judge p e) (entryFault judge (suc p) es)
 
 -- r rows of n entries each, a row after its last entry
 unfoldable pub rowsFault : ℕ → ℕ → ℕ → List Slot → Option Fault
 rowsFault n zero p es = none
 rowsFault n (suc r) p es =
-    orElse (entryFault timeLimit fault.Time p (take n es))
+    orElse (entryFault (over timeLimit fault.Time) p (take n es))
     (orElse (when (not (regular (map timeOf (take n es)))) (fault.EmptyRow p)) (rowsFault n r (p + n) (drop n es)))
 
 unfoldable pub outside : ℕ → ℕ → ℕ → Bool
@@ -93,15 +110,19 @@ tableFault c low k =
     orElse (when (outside 1 mostDepartures (c .n)) fault.Departures)
     (orElse (when (outside low mostCycles k) fault.Horizon) (rowsFault (c .n) (c .n) 0 (c .times)))
 
--- then 6, of the start followed by the target
-unfoldable pub patternsFault : Case → Option Fault
-patternsFault c =
+-- then the bounds, of the start followed by the target, with or without a place for marks
+unfoldable pub patternsFault : Bool → Case → Option Fault
+patternsFault marks c =
     let size = patternSize (c .n) in
-    orElse (entryFault boundLimit fault.Bound 0 (take size (c .start))) (entryFault boundLimit fault.Bound size (take size (c .target)))
+    orElse (entryFault (boundFault marks) 0 (take size (c .start))) (entryFault (boundFault marks) size (take size (c .target)))
 
 -- the first fault of an unpacked case by itself, 2 to 6
 unfoldable pub caseFault : Case → Option Fault
-caseFault c = orElse (tableFault c 1 (c .horizon .0)) (patternsFault c)
+caseFault c = orElse (tableFault c 1 (c .horizon .0)) (patternsFault true c)
+
+-- of a case for document 01's packed form, which has no place for a mark: 2 to 6, with 16
+unfoldable pub formFault : Case → Option Fault
+formFault c = orElse (tableFault c 1 (c .horizon .0)) (patternsFault false c)
 
 -- then 9 and 10
 unfoldable pub roomFault : ℕ → ℕ → ℕ → Option Fault
@@ -115,4 +136,4 @@ callFault c capacity size = orElse (caseFault c) (roomFault (c .n) capacity size
 -- the first fault of a run: the case, the start times, the cycle
 unfoldable pub runFault : Case → List Seconds → ℕ → Option Fault
 runFault c xs k =
-    orElse (tableFault c 0 k) (entryFault startLimit fault.StartTime 0 (map (λ x. present (x .0)) (take (c .n) xs)))
+    orElse (tableFault c 0 k) (entryFault (over startLimit fault.StartTime) 0 (map (λ x. present (x .0)) (take (c .n) xs)))

@@ -8,7 +8,7 @@ use lib.ListN.{getD}
 use lib.Dec.{eqb}
 use Rattle.model.specs.Lists.{tabulate, sameLists}
 use Rattle.model.specs.Bound as B
-use Rattle.model.specs.Bound.{Bound, most, Holds, plus, tighter, negative, sameBound}
+use Rattle.model.specs.Bound.{Bound, upto, most, Holds, plus, tighter, negative, sameBound}
 
 abbrev pub Matrix : Type 0
 Matrix = List Bound
@@ -42,7 +42,7 @@ relaxed m d a b c = matrix m (λ i j. tighter (entry m d i j) (plus (plus (entry
 
 unfoldable pub within : ℕ → Matrix → ℕ → ℕ → Bound → Option Matrix
 within m d a b B.Bound.none = some d
-within m d a b (most c) = cond (negative (plus (entry m d b a) (most c))) none (some (relaxed m d a b (most c)))
+within m d a b (upto s c) = cond (negative (plus (entry m d b a) (upto s c))) none (some (relaxed m d a b (upto s c)))
 
 -- one more constraint: the tightest bounds of the times of d that meet it too, or none where there are none
 unfoldable pub constrain : ℕ → Option Matrix → Constraint → Option Matrix

@@ -1,6 +1,6 @@
 -- A network of n departures: its table, one cycle at a time, powers, the first repeated power.
 use Prim.Native.Nat.{ℕ, zero, suc, _+_, _*_, _-_}
-use lib.IntN.{ℤ, pos, _+ℤ_, _-ℤ_}
+use lib.IntN.{ℤ, pos, _+ℤ_, _-ℤ_, _*ℤ_}
 use lib.Signed.{leZ}
 use mathlib.Core.List.{List, [], _∷_, _++_, map, flatten, foldr}
 use mathlib.Core.Option.{Option, none, some}
@@ -8,7 +8,7 @@ use mathlib.Core.Bool.{Bool, true, false, cond}
 use lib.ListN.{getD}
 use Rattle.model.specs.Sizes.{mostCycles}
 use Rattle.model.specs.Lists.{tabulate, anyOf, sameLists}
-use Rattle.model.specs.Bound.{Bound, sameZ}
+use Rattle.model.specs.Bound.{Bound, sameZ, scale}
 
 -- an entry of the table. A blank takes no part
 pub data Time : Type 0 where
@@ -21,6 +21,20 @@ pub record Network : Type 0 where
   pub times : List Time
   pub start : List Bound
   pub target : List Bound
+
+-- the same network with its numbers in parts, of which parts make a second
+unfoldable pub scaleTime : ℕ → Time → Time
+scaleTime parts blank = blank
+scaleTime parts (secs a) = secs (a *ℤ pos parts)
+
+unfoldable pub inParts : ℕ → Network → Network
+inParts parts w = record {
+  n = w .n;
+  horizon = w .horizon;
+  times = map (scaleTime parts) (w .times);
+  start = map (scale parts) (w .start);
+  target = map (scale parts) (w .target);
+}
 
 -- A(i, j), 1 ≤ i, j ≤ n, of the flat table by rows
 unfoldable pub time : ℕ → List Time → ℕ → ℕ → Time

@@ -6,13 +6,14 @@ use lib.ListN.{length, getD}
 use lib.Dec.{ltb, leb, eqb}
 use lib.IntN.{ℤ, pos, _-ℤ_}
 use Rattle.model.specs.declared.Slot.{Slot}
+use Rattle.model.specs.declared.Limit.{Limit}
 use Rattle.model.specs.declared.Case.{Case}
 use Rattle.model.specs.declared.Fault.{Fault}
 use Rattle.model.specs.declared.Fault.the-variants as fault
 use Rattle.model.specs.Sizes.{mostBounds, timeLimit, boundLimit, patternSize, departuresWidth, horizonWidth, timeWidth, boundWidth}
 use Rattle.model.specs.Lists.{padded}
 use Rattle.model.specs.Network.{regular}
-use Rattle.model.specs.Faults.{timeOf, nothing, present, beyond}
+use Rattle.model.specs.Faults.{timeOf, nothing, present, unmarked, beyond}
 
 -- a value and the place after it, or the first fault
 pub data Reading (A : Type 0) : Type 0 where
@@ -66,8 +67,9 @@ rows s n (suc k) p before =
     andThen (entries s timeWidth timeLimit fault.Time n p []) (λ row q.
     cond (regular (map timeOf row)) (rows s n k q (before ++ row)) (refused (fault.EmptyRow p)))
 
-unfoldable pub bounds : List ℕ → ℕ → ℕ → Reading (List Slot)
-bounds s n p = entries s boundWidth boundLimit fault.Bound (patternSize n) p []
+-- the bounds of a pattern: none is strict
+unfoldable pub bounds : List ℕ → ℕ → ℕ → Reading (List Limit)
+bounds s n p = andThen (entries s boundWidth boundLimit fault.Bound (patternSize n) p []) (λ es q. got (map unmarked es) q)
 
 -- k bits that are 0
 unfoldable pub zeros : List ℕ → ℕ → ℕ → Reading ℕ
@@ -81,13 +83,13 @@ fill s p =
     cond (eqb q (8 * length s)) (got 0 q) (refused (fault.ExtraByte q)))
 
 -- the unpacked case of n departures and h cycles with these entries
-abbrev pub caseOf : ℕ → ℕ → List Slot → List Slot → List Slot → Case
+abbrev pub caseOf : ℕ → ℕ → List Slot → List Limit → List Limit → Case
 caseOf n h times start target = record {
   n = n;
   horizon = record { 0 = h };
   times = padded nothing mostBounds times;
-  start = padded nothing mostBounds start;
-  target = padded nothing mostBounds target;
+  start = padded (unmarked nothing) mostBounds start;
+  target = padded (unmarked nothing) mostBounds target;
 }
 
 -- what follows the two numbers

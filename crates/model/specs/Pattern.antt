@@ -7,7 +7,7 @@ use lib.ListN.{getD}
 use lib.Dec.{eqb, ltb}
 use Rattle.model.specs.Lists.{tabulate, allOf}
 use Rattle.model.specs.Bound as B
-use Rattle.model.specs.Bound.{Bound, most, Holds}
+use Rattle.model.specs.Bound.{Bound, upto, Holds}
 use Rattle.model.specs.Matrix.{Constraint}
 
 -- the place of the pair i, j, i not j
@@ -23,7 +23,7 @@ patternConstraints n b =
 
 unfoldable pub isNone : Bound → Bool
 isNone B.Bound.none = true
-isNone (most b) = false
+isNone (upto s b) = false
 
 -- bounds only differences: no stated bound names x(0)
 unfoldable pub onlyDifferences : ℕ → List Bound → Bool

@@ -9,7 +9,7 @@ use lib.Dec.{ltb, leb}
 use Rattle.model.specs.Sizes.{zoneLimit}
 use Rattle.model.specs.Lists.{tabulate, anyOf, when, orElse}
 use Rattle.model.specs.Bound as B
-use Rattle.model.specs.Bound.{Bound, most, plus, tighter}
+use Rattle.model.specs.Bound.{Bound, upto, most, plus, tighter, scale, whole}
 use Rattle.model.specs.Matrix.{Matrix, entry, Constraint, constrain, tighten, sameMatrix}
 use Rattle.model.specs.Pattern.{patternConstraints, onlyDifferences}
 use Rattle.model.specs.Network.{Time, blank, secs, Network, time, isTime, secsOf, Repeat, repeatOf}
@@ -91,8 +91,8 @@ below m z xs = tightest (tabulate (length xs) 0 (λ s. plus (entry m z s (length
 
 -- the greatest time; if there is no greatest, the least; if neither, 0. Given how early, negated, and how late
 unfoldable pub greatestOr : Bound → Bound → ℤ
-greatestOr w (most c) = c
-greatestOr (most b) B.Bound.none = negℤ b
+greatestOr w (upto s c) = c
+greatestOr (upto s b) B.Bound.none = negℤ b
 greatestOr B.Bound.none B.Bound.none = pos 0
 
 unfoldable pub choices : ℕ → Matrix → ℕ → List ℤ → List ℤ
@@ -102,9 +102,33 @@ choices m z (suc r) xs = choices m z r (xs ++ (greatestOr (below m z xs) (above 
 unfoldable pub pick : ℕ → Matrix → List ℤ
 pick n z = drop 1 (choices (suc n) z n (pos 0 ∷ []))
 
--- how a search ends
+unfoldable pub isStrict : Bound → Bool
+isStrict B.Bound.none = false
+isStrict (upto s b) = s
+
+-- one of the patterns has a strict bound
+abbrev pub someStrict : Network → Bool
+someStrict w = anyOf isStrict (w .start) || anyOf isStrict (w .target)
+
+-- the parts of a second that a start is in: 1 if neither pattern has a strict bound, else n + 1
+unfoldable pub partsOf : Network → ℕ
+partsOf w = cond (someStrict w) (suc (w .n)) 1
+
+-- the bounds of a matrix, as constraints
+unfoldable pub boundsOf : ℕ → Matrix → List Constraint
+boundsOf m d = flatten (tabulate m 0 (λ i. tabulate m 0 (λ j. record { row = i; col = j; limit = entry m d i j })))
+
+-- the times of a zone in parts, "less than b" being at most b - 1 parts
+unfoldable pub wholes : ℕ → ℕ → Matrix → Option Matrix
+wholes m parts z = tighten m (boundsOf m (map whole (map (scale parts) z)))
+
+-- the start that is picked in a zone, in parts
+unfoldable pub startIn : ℕ → ℕ → Matrix → List ℤ
+startIn n parts z = elim (wholes (suc n) parts z) [ some d ↦ pick n d | none ↦ [] ]
+
+-- how a search ends: reached has the cycle, the parts and the start
 pub data Outcome : Type 0 where
-  reached : ℕ → List ℤ → Outcome
+  reached : ℕ → ℕ → List ℤ → Outcome
   clear : ℕ → Outcome
   never : Outcome
   tableFull : ℕ → Outcome
@@ -126,7 +150,7 @@ plan w = planWith (w .horizon) (repeatOf w) (onlyDifferences (w .n) (w .start) |
 -- a finite bound beyond the limit in size
 unfoldable pub large : Bound → Bool
 large B.Bound.none = false
-large (most b) = ltb zoneLimit (natAbs b)
+large (upto s b) = ltb zoneLimit (natAbs b)
 
 unfoldable pub someLarge : List Matrix → Bool
 someLarge zs = anyOf (anyOf large) zs
@@ -136,7 +160,7 @@ unfoldable pub settled : Network → ℕ → ℕ → List Matrix → Option Outc
 settled w capacity k zs =
     orElse (when (ltb capacity (length zs)) (tableFull k))
     (orElse (when (someLarge zs) (boundTooLarge k))
-    (Option·map (λ c. reached k (pick (w .n) c)) (firstCommon (w .n) (w .start) zs)))
+    (Option·map (λ c. reached k (partsOf w) (startIn (w .n) (partsOf w) c)) (firstCommon (w .n) (w .start) zs)))
 
 -- no zone is left
 unfoldable pub dry : List Matrix → Bool

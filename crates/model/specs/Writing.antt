@@ -2,12 +2,13 @@
 use Prim.Native.Nat.{ℕ, suc, _+_, _-_, _*_, _/_, _%_, _^_, _≤_}
 use mathlib.Core.Path.{_≡_}
 use mathlib.Core.List.{List, [], _∷_, _++_, map, flatMap}
-use mathlib.Core.Bool.{Bool, cond}
+use mathlib.Core.Bool.{Bool, false, cond}
 use mathlib.Core.Option.{Option, none, some}
 use lib.ListN.{length, getD, take, drop}
 use lib.Dec.{ltb}
 use lib.IntN.{ℤ, pos, negsuc}
 use Rattle.model.specs.declared.Slot.{Slot}
+use Rattle.model.specs.declared.Limit.{Limit}
 use Rattle.model.specs.declared.Case.{Case}
 use Rattle.model.specs.declared.Written.{Written}
 use Rattle.model.specs.declared.Written.the-variants as written
@@ -15,7 +16,7 @@ use Rattle.model.specs.declared.Fault.{Fault}
 use Rattle.model.specs.declared.Fault.the-variants as fault
 use Rattle.model.specs.Sizes.{tableSize, patternSize, timeLimit, boundLimit, departuresWidth, horizonWidth, timeWidth, boundWidth}
 use Rattle.model.specs.Lists.{tabulate, when, orElse}
-use Rattle.model.specs.Faults.{nothing, present, beyond, caseFault}
+use Rattle.model.specs.Faults.{nothing, present, stated, unmarked, over, boundFault, caseFault, formFault}
 use Rattle.model.specs.Packed.{numOf, signed, caseOf}
 
 -- ---- bits and bytes
@@ -51,14 +52,22 @@ slotKind w limit f = record {
   has = λ e. e .has;
   value = λ raw. present (signed (2 ^ (w - 1)) raw);
   raw = λ e. rawOf (2 ^ (w - 1)) (e .value .0);
-  judge = λ p e. when (beyond limit e) (f p);
+  judge = over limit f;
 }
 
 abbrev pub timeKind : Kind Slot
 timeKind = slotKind timeWidth timeLimit fault.Time
 
-abbrev pub boundKind : Kind Slot
-boundKind = slotKind boundWidth boundLimit fault.Bound
+-- bounds, with no place for a mark
+abbrev pub boundKind : Kind Limit
+boundKind = let slots = slotKind boundWidth boundLimit fault.Bound in record {
+  width = slots .width;
+  absent = unmarked nothing;
+  has = λ e. e .has;
+  value = λ raw. unmarked (slots .value raw);
+  raw = λ e. slots .raw (stated e);
+  judge = boundFault false;
+}
 
 -- a presence bit, then the value if it is 1
 unfoldable pub entryBits : {A : Type 0} → Kind A → A → List ℕ
@@ -70,7 +79,7 @@ entriesBits k es = flatMap (entryBits k) es
 
 -- ---- the case
 -- the bounds of the start, then those of the target
-abbrev pub allBounds : Case → List Slot
+abbrev pub allBounds : Case → List Limit
 allBounds c = take (patternSize (c .n)) (c .start) ++ take (patternSize (c .n)) (c .target)
 
 -- document 01's fields: n; N - 1; A row by row; start; target
@@ -83,7 +92,7 @@ caseBits c =
 unfoldable pub packedBytes : Case → List ℕ
 packedBytes c = bytesOf (caseBits c)
 
--- the entry, without its value where that is marked absent
+-- the entry, without its value and its mark where it is marked absent
 abbrev pub tidy : {A : Type 0} → Kind A → A → A
 tidy k e = cond (k .has e) e (k .absent)
 
@@ -105,9 +114,9 @@ pub record Whole (c : Case) : Type 0 where
 unfoldable pub roomFor : List ℕ → ℕ → Option Fault
 roomFor bytes size = when (ltb size (length bytes)) (fault.Output (length bytes))
 
--- the first fault of writing a case: the case, the length of the output
+-- the first fault of writing a case: the case, with 16, then the length of the output
 unfoldable pub writeFault : Case → ℕ → Option Fault
-writeFault c size = orElse (caseFault c) (roomFor (packedBytes c) size)
+writeFault c size = orElse (formFault c) (roomFor (packedBytes c) size)
 
 -- the number of bytes, if there is no fault
 unfoldable pub told : Option Fault → List ℕ → Written

@@ -39,7 +39,7 @@ pub const BOUNDS: usize = DEPARTURES * (DEPARTURES + 1);
 
 pub const NUMBERS: usize = (DEPARTURES + 1) * (DEPARTURES + 1);
 
-// An entry of a table or of a pattern: its value counts where has is true.
+// An entry of a table: its value counts where has is true.
 pub struct Slot {
     pub has: bool,
     pub value: Seconds,
@@ -71,13 +71,27 @@ impl Slot {
     }
 }
 
+// A bound of a pattern: its mark, whether it is strict, and its value count where has is true.
+pub struct Limit {
+    pub has: bool,
+    pub strict: bool,
+    pub value: Seconds,
+}
+
+// A bound that is not there.
+pub const FREE: Limit = Limit {
+    has: false,
+    strict: false,
+    value: ZERO,
+};
+
 // An unpacked case. Entries are in packed order for n, from 0 on; those beyond are ignored. Each part has room for as many as a pattern has.
 pub struct Case {
     pub n: usize,
     pub horizon: Cycle,
     pub times: [Slot; BOUNDS],
-    pub start: [Slot; BOUNDS],
-    pub target: [Slot; BOUNDS],
+    pub start: [Limit; BOUNDS],
+    pub target: [Limit; BOUNDS],
 }
 
 pub enum Fault {
@@ -96,6 +110,7 @@ pub enum Fault {
     StartTime(usize),
     Output(usize),
     Entry,
+    Form(usize),
 }
 
 impl Fault {
@@ -118,6 +133,7 @@ impl Fault {
             Fault::StartTime(_) => 13,
             Fault::Output(_) => 14,
             Fault::Entry => 15,
+            Fault::Form(_) => 16,
         }
     }
 
@@ -140,11 +156,11 @@ impl Fault {
             Fault::StartTime(departure) => departure,
             Fault::Output(needed) => needed,
             Fault::Entry => 0,
+            Fault::Form(place) => place,
         }
     }
 }
 
-// A verdict, beside it the start that it hands back: all 0 unless it is Reached.
 pub enum Verdict {
     Reached(Cycle),
     Clear(Cycle),
@@ -190,8 +206,10 @@ impl Verdict {
     }
 }
 
+// A verdict, beside it the start that it hands back, in parts of which parts make a second: all 0 unless it is Reached.
 pub struct Answer {
     pub verdict: Verdict,
+    pub parts: usize,
     pub start: [Seconds; DEPARTURES],
 }
 

@@ -17,7 +17,7 @@ use Rattle.model.specs.declared.Fault.{Fault}
 use Rattle.model.specs.declared.Fault.the-variants as fault
 use Rattle.model.specs.Lists.{padded, anyOf}
 use Rattle.model.specs.Network.{isTime, regular}
-use Rattle.model.specs.Faults.{timeOf, nothing, present, beyond}
+use Rattle.model.specs.Faults.{timeOf, present, beyond}
 use Rattle.model.specs.Packed.{Reading, got, refused, andThen, bitAt, numOf, numAt, bits, signed, entry, entries, rows, zeros}
 use Rattle.model.proofs.Parsed.{Gives, value, no-value, given, test-gives, then-gives, num-small}
 use Rattle.packed.specs.declared.EntryKind.{EntryKind}
@@ -115,42 +115,26 @@ regular-more (x ∷ es) e = rw or-assoc (ap (λ (b : Bool). isTime (timeOf x) ||
 pub answered : {r x : SlotRead} {y : Reading Slot} → slotRead r ≡ y → r ≡ x → y ≡ slotRead x
 answered h e = sym h ∙ ap slotRead e
 
--- i of n entries were read from place first on, and stand in the array after the base entries that it held before
-pub record Entries (k : EntryKind) (s : List ℕ) (n base first : ℕ) (slots₀ : List Slot)
-    (i : ℕ) (slots : List Slot) (next : ℕ) (read : List Slot) : Type 0 where
+-- i of n entries were read from place first on
+pub record Entries (k : EntryKind) (s : List ℕ) (n first i next : ℕ) (read : List Slot) : Type 0 where
   pub long : length read ≡ i
   pub within : i ≤ n
   pub place : InCase s (first + (1 + k .width) * i) next
-  pub stored : (before : List Slot) → length before ≡ base → slots₀ ≡ padded nothing mostBounds before
-      → slots ≡ padded nothing mostBounds (before ++ read)
   pub rest : entriesOf k s n first [] ≡ entriesOf k s (n - i) next read
 
-pub entries-none : {k : EntryKind} {s : List ℕ} {n base first : ℕ} {slots₀ : List Slot}
-    → first ≤ 8 * length s → Entries k s n base first slots₀ 0 slots₀ first []
+pub entries-none : {k : EntryKind} {s : List ℕ} {n first : ℕ} → first ≤ 8 * length s → Entries k s n first 0 first []
 entries-none {k} {s} {n} {first} h =
     let z : n ≡ n - 0 = omega arith in
-    record {
-      long = refl;
-      within = omega arith;
-      place = omega arith;
-      stored = λ before l e. e ∙ ap (padded nothing mostBounds) (sym (append-nil before));
-      rest = ap (λ (m : ℕ). entriesOf k s m first []) z;
-    }
+    record { long = refl; within = omega arith; place = omega arith; rest = ap (λ (m : ℕ). entriesOf k s m first []) z }
 
-module _ {k : EntryKind} {s : List ℕ} {n base first : ℕ} {slots₀ : List Slot} {i : ℕ} {slots : List Slot} {next : ℕ} {read : List Slot}
-    (r : Entries k s n base first slots₀ i slots next read) where
-  pub entries-more : i < n → (j : ℕ) → j ≡ base + i → j < mostBounds → (e : Slot) (q : ℕ) → entryOf k s next ≡ got e q →
-      Entries k s n base first slots₀ (i + 1) (set slots j e) q (read ++ e ∷ [])
-  entries-more h j m b e q g =
+module _ {k : EntryKind} {s : List ℕ} {n first i next : ℕ} {read : List Slot} (r : Entries k s n first i next read) where
+  pub entries-more : i < n → (e : Slot) (q : ℕ) → entryOf k s next ≡ got e q → Entries k s n first (i + 1) q (read ++ e ∷ [])
+  entries-more h e q g =
       let p = given (entry-gives k s next) g in
       record {
         long = omega (arith, length-append read (e ∷ []));
         within = omega arith;
         place = omega (arith, mul-add (1 + k .width) i 1);
-        stored = λ before l d.
-            ap (λ (x : List Slot). set x j e) (r .stored before l d)
-            ∙ padded-set nothing mostBounds j (before ++ read) e (omega (arith, length-append before read)) b
-            ∙ ap (padded nothing mostBounds) (append-assoc before read (e ∷ []));
         rest = r .rest ∙ entries-turn k s n i next read h ∙ simp g;
       }
 
@@ -159,6 +143,22 @@ module _ {k : EntryKind} {s : List ℕ} {n base first : ℕ} {slots₀ : List Sl
 
   pub entries-done : n ≤ i → entriesOf k s n first [] ≡ got read next
   entries-done h = r .rest ∙ entries-end k s n i next read h
+
+-- an array holds these after the base entries that it held at first, and z behind them
+pub record Held {A : Type 0} (z : A) (base : ℕ) (array₀ array es : List A) : Type 0 where
+  pub stored : (before : List A) → length before ≡ base → array₀ ≡ padded z mostBounds before → array ≡ padded z mostBounds (before ++ es)
+
+pub held-none : {A : Type 0} (z : A) {base : ℕ} {array : List A} → Held z base array array []
+held-none z = record { stored = λ before l e. e ∙ ap (padded z mostBounds) (sym (append-nil before)) }
+
+pub held-more : {A : Type 0} {z : A} {base : ℕ} {array₀ array es : List A} → Held z base array₀ array es
+    → (j : ℕ) → j ≡ base + length es → j < mostBounds → (e : A) → Held z base array₀ (set array j e) (es ++ e ∷ [])
+held-more {A} {z} {es} h j m b e = record {
+  stored = λ before l d.
+      ap (λ (x : List A). set x j e) (h .stored before l d)
+      ∙ padded-set z mostBounds j (before ++ es) e (omega (arith, length-append before es)) b
+      ∙ ap (padded z mostBounds) (append-assoc before es (e ∷ []));
+}
 
 -- ---- the entries of one row more
 pub next-row : (n i : ℕ) → (i + 1) * n ≡ i * n + n

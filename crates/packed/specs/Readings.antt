@@ -9,7 +9,6 @@ use Rattle.model.specs.declared.Slot.{Slot}
 use Rattle.model.specs.declared.Fault.{Fault}
 use Rattle.model.specs.declared.Fault.the-variants as fault
 use Rattle.model.specs.Lists.{padded}
-use Rattle.model.specs.Faults.{nothing}
 use Rattle.model.specs.Packed.{Reading, got, refused, andThen, entry}
 use Rattle.packed.specs.declared.Field.{Field}
 use Rattle.packed.specs.declared.Field.the-variants as field
@@ -18,7 +17,6 @@ use Rattle.packed.specs.declared.SlotRead.{SlotRead}
 use Rattle.packed.specs.declared.SlotRead.the-variants as slot
 use Rattle.packed.specs.declared.Next.{Next}
 use Rattle.packed.specs.declared.Next.the-variants as next
-use Rattle.packed.specs.declared.SlotsRead.{SlotsRead}
 
 -- ---- places
 -- a place within the case, and at most most
@@ -78,9 +76,9 @@ abbrev pub nextRead : Next → Reading ℕ
 nextRead (next.At c) = got 0 (c .at)
 nextRead (next.Faulty f) = refused f
 
--- x gives the entries that stand in the array and the next part's place, or is refused
-pub record SlotsAre (s : List ℕ) (most : ℕ) (x : Reading (List Slot)) (r : SlotsRead) : Type 0 where
-  pub read : List Slot
-  pub is : x ≡ andThen (nextRead (r .next)) (λ z q. got read q)
-  pub stored : r .slots ≡ padded nothing mostBounds read
-  pub place : InCase s most (placeOf (r .next))
+-- x gives the entries that stand in the array, with z behind them, and the next part's place, or is refused
+pub record Stored {A : Type 0} (z : A) (s : List ℕ) (most : ℕ) (x : Reading (List A)) (array : List A) (after : Next) : Type 0 where
+  pub read : List A
+  pub is : x ≡ andThen (nextRead after) (λ z q. got read q)
+  pub stored : array ≡ padded z mostBounds read
+  pub place : InCase s most (placeOf after)

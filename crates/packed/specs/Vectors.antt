@@ -2,14 +2,14 @@
 use Prim.Native.Nat.{ℕ, _-_}
 use lib.IntN.{ℤ, pos, negsuc}
 use mathlib.Core.Path.{_≡_, refl}
-use mathlib.Core.List.{List, [], _∷_, _++_}
+use mathlib.Core.List.{List, [], _∷_, _++_, map}
 use lib.ListN.{replicate}
 use Rattle.model.specs.declared.Slot.{Slot}
 use Rattle.model.specs.declared.Case.{Case}
 use Rattle.model.specs.declared.Fault.the-variants as fault
 use Rattle.model.specs.Lists.{anyOf}
 use Rattle.model.specs.Network.{isTime, regular}
-use Rattle.model.specs.Faults.{timeOf, nothing, present, beyond}
+use Rattle.model.specs.Faults.{timeOf, nothing, present, unmarked, beyond}
 use Rattle.model.specs.Packed.{Reading, got, refused, bitAt, numOf, bits, signed, entry, entries, rows, bounds, zeros, fill, caseOf, body, parse}
 
 pub data Vector : Type 0 where
@@ -21,7 +21,7 @@ AllRight (reads s x ∷ vs) = (parse s ≡ x) × AllRight vs
 
 -- document 01's four bytes: n = 1, N = 1, time 60, no bounds
 abbrev pub one : Case
-one = caseOf 1 1 (present (pos 60) ∷ []) (nothing ∷ nothing ∷ []) (nothing ∷ nothing ∷ [])
+one = caseOf 1 1 (present (pos 60) ∷ []) (map unmarked (nothing ∷ nothing ∷ [])) (map unmarked (nothing ∷ nothing ∷ []))
 
 -- n = 7, N = 64: a time in each row, the ends of the ranges among the values
 abbrev pub rowWith : ℕ → ℤ → List Slot
@@ -37,8 +37,8 @@ seven =
     ++ rowWith 3 (pos 0)
     ++ rowWith 4 (pos 3600)
     ++ rowWith 5 (pos 86399))
-    (present (pos 1000000) ∷ replicate 55 nothing)
-    (replicate 55 nothing ++ present (negsuc 999999) ∷ [])
+    (map unmarked (present (pos 1000000) ∷ replicate 55 nothing))
+    (map unmarked (replicate 55 nothing ++ present (negsuc 999999) ∷ []))
 
 abbrev pub vectors : List Vector
 vectors =

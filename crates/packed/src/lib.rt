@@ -5,11 +5,13 @@ ghost use mathlib.Core.List.{[]};
 ghost use lib.ListN.{length};
 ghost use Rattle.model.specs.Sizes.{boundWidth, mostBits};
 ghost use Rattle.model.specs.Conditions.{Departures};
+ghost use Rattle.model.specs.Faults;
+ghost use Rattle.model.specs.Faults.{nothing};
 ghost use Rattle.model.specs.Packed;
 ghost use Rattle.model.specs.Packed.{andThen, bitAt, bits, rows, bounds, fill, body, caseOf, parse};
 ghost use Rattle.model.specs.Answers.{unpacked};
 ghost use Rattle.packed.specs.Readings.{fieldRead, EntryAt, faultOf, entryOf, slotRead};
-ghost use Rattle.packed.specs.Readings.{nextRead, placeOf, From, mostTableBits, mostPatternBits, SlotsAre};
+ghost use Rattle.packed.specs.Readings.{nextRead, placeOf, From, mostTableBits, mostPatternBits, Stored};
 use ints::Cycle;
 use ints::Seconds;
 use model::BOUND_LIMIT;
@@ -17,9 +19,11 @@ use model::BOUND_WIDTH;
 use model::BOUNDS;
 use model::Case;
 use model::DEPARTURES_WIDTH;
+use model::FREE;
 use model::Fault;
 use model::HORIZON_WIDTH;
 use model::Judged;
+use model::Limit;
 use model::NOTHING;
 use model::Slot;
 use model::TIME_LIMIT;
@@ -71,9 +75,15 @@ enum Next {
     Faulty(Fault),
 }
 
-// The entries of the table or of a pattern as far as they were read.
+// The entries of the table as far as they were read.
 struct SlotsRead {
     slots: [Slot; BOUNDS],
+    next: Next,
+}
+
+// The bounds of a pattern as far as they were read.
+struct LimitsRead {
+    limits: [Limit; BOUNDS],
     next: Next,
 }
 
@@ -145,10 +155,22 @@ impl Cursor {
     }
 }
 
+// An entry as a bound that is not strict.
+pub fn unmarked(slot: Slot) -> Limit
+    ensures { λ r. ⌜ r ≡ Faults.unmarked slot ⌝ }
+{
+    let value = slot.value;
+    Limit {
+        has: slot.has,
+        strict: false,
+        value,
+    }
+}
+
 // The table: n rows of n times. It ends at the first faulty entry or row without a time.
 fn times(s: &[u8], start: Cursor, n: usize) -> SlotsRead
     requires { ⌜ From (now s) mostTableBits (start .at) × Departures n ⌝ }
-    ensures { λ r. ⌜ SlotsAre (now (s .entry)) (start .at + mostTableBits) (rows (now (s .entry)) n n (start .at) []) r ⌝ }
+    ensures { λ r. ⌜ Stored nothing (now (s .entry)) (start .at + mostTableBits) (rows (now (s .entry)) n n (start .at) []) (r .slots) (r .next) ⌝ }
 {
     let mut slots = [NOTHING; BOUNDS];
     let mut cursor = start;
@@ -180,14 +202,15 @@ fn times(s: &[u8], start: Cursor, n: usize) -> SlotsRead
     SlotsRead { slots, next }
 }
 
-// A pattern: n * (n + 1) bounds. Where there is a fault already, it stays.
-fn bounds(s: &[u8], from: Next, n: usize) -> SlotsRead
+// A pattern: n * (n + 1) bounds, none of them strict. Where there is a fault already, it stays.
+fn bounds(s: &[u8], from: Next, n: usize) -> LimitsRead
     requires { ⌜ From (now s) mostPatternBits (placeOf from) × Departures n ⌝ }
-    ensures { λ r. ⌜ SlotsAre (now (s .entry)) (placeOf from + mostPatternBits) (andThen (nextRead from) (λ z p. bounds (now (s .entry)) n p)) r ⌝ }
+    ensures { λ r. ⌜ Stored (Faults.unmarked nothing) (now (s .entry)) (placeOf from + mostPatternBits)
+        (andThen (nextRead from) (λ z p. bounds (now (s .entry)) n p)) (r .limits) (r .next) ⌝ }
 {
-    let mut slots = [NOTHING; BOUNDS];
+    let mut limits = [FREE; BOUNDS];
     let mut cursor = match from {
-        Next::Faulty(_) => return SlotsRead { slots, next: from },
+        Next::Faulty(_) => return LimitsRead { limits, next: from },
         Next::At(start) => start,
     };
     let count = n * (n + 1);
@@ -195,16 +218,16 @@ fn bounds(s: &[u8], from: Next, n: usize) -> SlotsRead
         match cursor.entry(s, BOUND) {
             SlotRead::Faulty(f) => {
                 let next = Next::Faulty(f);
-                return SlotsRead { slots, next };
+                return LimitsRead { limits, next };
             }
             SlotRead::Got(slot, after) => {
-                slots[i] = slot;
+                limits[i] = unmarked(slot);
                 cursor = after;
             }
         }
     }
     let next = Next::At(cursor);
-    SlotsRead { slots, next }
+    LimitsRead { limits, next }
 }
 
 // Zero bits up to a whole byte, and no byte more. Where there is a fault already, it stays.
@@ -237,8 +260,8 @@ fn empty() -> Case
         n: 0,
         horizon: Cycle(0),
         times: [NOTHING; BOUNDS],
-        start: [NOTHING; BOUNDS],
-        target: [NOTHING; BOUNDS],
+        start: [FREE; BOUNDS],
+        target: [FREE; BOUNDS],
     }
 }
 
@@ -265,8 +288,8 @@ fn rest(s: &[u8], first: Cursor, n: usize, horizon: Cycle) -> Unpacked
         return refused(f);
     }
     let times = table.slots;
-    let start = from.slots;
-    let target = to.slots;
+    let start = from.limits;
+    let target = to.limits;
     let case = Case {
         n,
         horizon,

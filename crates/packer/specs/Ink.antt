@@ -1,15 +1,17 @@
 -- How a pen and the output hold the bits that were written, and what the functions of the pen ask for and give.
 use mathlib.Core.Path.{_≡_}
 use Prim.Native.Nat.{ℕ, _+_, _-_, _*_, _^_, _≤_, _<_}
-use mathlib.Core.List.{List, _++_}
+use mathlib.Core.List.{List, _++_, map}
 use lib.ListN.{length, getD, take, drop}
-use Rattle.model.specs.Sizes.{mostCycles, mostBounds, departuresWidth, horizonWidth, boundWidth}
+use Rattle.model.specs.Sizes.{mostCycles, mostBounds, tableSize, patternSize, departuresWidth, horizonWidth, timeWidth, boundWidth}
 use Rattle.model.specs.declared.Slot.{Slot}
+use Rattle.model.specs.declared.Case.{Case}
 use Rattle.model.specs.declared.Fault.the-variants as fault
 use Rattle.model.specs.Lists.{tabulate, Every}
 use Rattle.model.specs.Packed.{numOf}
 use Rattle.model.specs.Writing.{Kind, slotKind, fieldBits, bytesOf, entriesBits}
-use Rattle.model.specs.Conditions.{InLimit}
+use Rattle.model.specs.Faults.{stated}
+use Rattle.model.specs.Conditions.{Departures, InLimit}
 use Rattle.packer.specs.declared.Pen.{Pen}
 
 -- ---- bits in bytes
@@ -47,9 +49,13 @@ pub record Extends (bs : List ℕ) (pen : Pen) (out : List ℕ) (next : Pen) (af
 abbrev pub Inks : List ℕ → Pen → List ℕ → Pen → List ℕ → Type 0
 Inks bs pen out next after = Extends bs pen out next after × (next .held < 8)
 
+-- the bytes, and what stood in the output behind them
+abbrev pub InFront : List ℕ → List ℕ → List ℕ → Type 0
+InFront bytes out after = after ≡ bytes ++ drop (length bytes) out
+
 -- the output holds the bytes of the bits that were written
 abbrev pub Filled : Pen → List ℕ → List ℕ → Type 0
-Filled pen out after = (first bs : List ℕ) → Inked first bs pen out → after ≡ bytesOf bs ++ drop (length (bytesOf bs)) first
+Filled pen out after = (first bs : List ℕ) → Inked first bs pen out → InFront (bytesOf bs) first after
 
 -- ---- entries
 -- an entry's bits depend on the width of its kind alone: any limit and fault will do
@@ -78,7 +84,30 @@ headBits n h = fieldBits departuresWidth n ++ fieldBits horizonWidth (h - 1)
 abbrev pub patternsBits : ℕ → List Slot → List Slot → List ℕ
 patternsBits size start target = entriesBits (ofWidth boundWidth) (take size start) ++ entriesBits (ofWidth boundWidth) (take size target)
 
--- ---- the horizons that have a field
+-- the horizons that have a field
 pub record Horizon (h : ℕ) : Type 0 where
   pub some : 0 < h
   pub few : h ≤ mostCycles
+
+-- ---- a case by its entries
+-- the bits of the table
+abbrev pub tableBits : ℕ → List Slot → List ℕ
+tableBits n times = entriesBits (ofWidth timeWidth) (take (tableSize n) times)
+
+-- and of the case of n departures and h cycles
+unfoldable pub formBits : ℕ → ℕ → List Slot → List Slot → List Slot → List ℕ
+formBits n h times start target = headBits n h ++ tableBits n times ++ patternsBits (patternSize n) start target
+
+-- it keeps to its limits
+pub record Sound (n h : ℕ) (times start target : List Slot) : Type 0 where
+  pub departures : Departures n
+  pub horizon : Horizon h
+  pub times-in : AllIn timeWidth (tableSize n) times
+  pub start-in : AllIn boundWidth (patternSize n) start
+  pub target-in : AllIn boundWidth (patternSize n) target
+
+-- these are the entries of the case, its bounds without their marks
+pub record EntriesOf (c : Case) (times start target : List Slot) : Type 0 where
+  pub times-are : times ≡ c .times
+  pub start-are : start ≡ map stated (c .start)
+  pub target-are : target ≡ map stated (c .target)

@@ -1,14 +1,15 @@
 // Writes a packed case: a pen by value, fields most significant bit first, entries in file order. Nothing is written before the last fault is excluded.
 ghost use mathlib.Core.Path.{_≡_};
-ghost use mathlib.Core.List.{_++_};
-ghost use mathlib.Core.Option.{none};
-ghost use Prim.Native.Nat.{_+_, _-_, _*_, _^_, _≤_, _<_};
-ghost use lib.ListN.{length, take, drop};
+ghost use mathlib.Core.List.{map};
+ghost use Prim.Native.Nat.{ℕ, _+_, _-_, _*_, _^_, _≤_, _<_};
+ghost use lib.ListN.{length, take};
 ghost use lib.IntN.{natAbs};
 ghost use Rattle.model.specs.Sizes.{mostDepartures, mostBounds, departuresWidth, horizonWidth, boundWidth};
-ghost use Rattle.model.specs.Faults.{caseFault};
-ghost use Rattle.model.specs.Writing.{fieldBits, rawOf, entryBits, entriesBits, caseBits, packedBytes, Whole, WriteGiven};
+ghost use Rattle.model.specs.Faults;
+ghost use Rattle.model.specs.Conditions.{Departures};
+ghost use Rattle.model.specs.Writing.{fieldBits, bytesOf, rawOf, entryBits, entriesBits, WriteGiven};
 ghost use Rattle.packer.specs.Ink.{CanInk, Inks, Filled, Horizon, ofWidth, FieldWidth, Narrow, AllIn, headBits, patternsBits};
+ghost use Rattle.packer.specs.Ink.{InFront, formBits, Sound, EntriesOf};
 use ints::Cycle;
 use ints::Seconds;
 use model::BOUND_WIDTH;
@@ -18,6 +19,8 @@ use model::DEPARTURES_WIDTH;
 use model::Fault;
 use model::HORIZON_WIDTH;
 use model::Judged;
+use model::Limit;
+use model::NOTHING;
 use model::Slot;
 use model::TIME_WIDTH;
 use model::Written;
@@ -135,7 +138,7 @@ fn entry_length(slot: Slot, width: usize) -> usize
 // The bits that the first entries of an array take.
 fn entries_length(slots: [Slot; BOUNDS], count: usize, width: usize) -> usize
     requires { ⌜ (count ≤ mostBounds) × (width ≤ boundWidth) ⌝ }
-    ensures { λ r. ⌜ (r ≡ length (entriesBits (ofWidth width) (take count slots))) × (r ≤ (1 + boundWidth) * count) × (length slots ≡ mostBounds) ⌝ }
+    ensures { λ r. ⌜ (r ≡ length (entriesBits (ofWidth width) (take count slots))) × (r ≤ (1 + boundWidth) * count) ⌝ }
 {
     let mut total: usize = 0;
     for i in 0..count {
@@ -145,33 +148,36 @@ fn entries_length(slots: [Slot; BOUNDS], count: usize, width: usize) -> usize
     total
 }
 
-// The bits of a case.
-fn case_length(case: Case) -> usize
-    requires { ⌜ caseFault case ≡ none ⌝ }
-    ensures { λ r. ⌜ (r ≡ length (caseBits case)) × Whole case ⌝ }
+// The bits of a case with these entries.
+fn case_length(
+    n: usize,
+    times: [Slot; BOUNDS],
+    start: [Slot; BOUNDS],
+    target: [Slot; BOUNDS],
+) -> usize
+    requires { ⌜ Departures n ⌝ }
+    ensures { λ r. ⌜ ((h : ℕ) → r ≡ length (formBits n h times start target)) ⌝ }
 {
-    let n = case.n;
     let size = n * (n + 1);
-    let times = case.times;
-    let start = case.start;
-    let target = case.target;
     HEAD_WIDTH
         + entries_length(times, n * n, TIME_WIDTH)
         + entries_length(start, size, BOUND_WIDTH)
         + entries_length(target, size, BOUND_WIDTH)
 }
 
-// The packed bytes of a case without a fault, for which the output has room.
-fn put_case(case: Case, out: &mut [u8])
-    requires { ⌜ (caseFault case ≡ none) × (length (packedBytes case) ≤ length (now out)) ⌝ }
-    ensures { λ _. ⌜ now (out .exit) ≡ packedBytes case ++ drop (length (packedBytes case)) (now (out .entry)) ⌝ }
+// The packed bytes of a case in its limits with these entries, for which the output has room.
+fn put_case(
+    n: usize,
+    horizon: Cycle,
+    times: [Slot; BOUNDS],
+    start: [Slot; BOUNDS],
+    target: [Slot; BOUNDS],
+    out: &mut [u8],
+)
+    requires { ⌜ Sound n (horizon .0) times start target × (length (bytesOf (formBits n (horizon .0) times start target)) ≤ length (now out)) ⌝ }
+    ensures { λ _. ⌜ InFront (bytesOf (formBits n (horizon .0) times start target)) (now (out .entry)) (now (out .exit)) ⌝ }
 {
-    let n = case.n;
-    let horizon = case.horizon;
     let size = n * (n + 1);
-    let times = case.times;
-    let start = case.start;
-    let target = case.target;
     let pen = Pen {
         full: 0,
         held: 0,
@@ -183,17 +189,54 @@ fn put_case(case: Case, out: &mut [u8])
     after_patterns.fill(out);
 }
 
+// The bounds without their marks.
+fn stated(limits: [Limit; BOUNDS]) -> [Slot; BOUNDS]
+    ensures { λ r. ⌜ r ≡ map Faults.stated limits ⌝ }
+{
+    let mut slots = [NOTHING; BOUNDS];
+    for i in 0..BOUNDS {
+        let limit = limits[i];
+        let value = limit.value;
+        slots[i] = Slot {
+            has: limit.has,
+            value,
+        };
+    }
+    slots
+}
+
+// The packed bytes of a case that has these entries, or its first fault.
+fn write_entries(
+    case: Case,
+    times: [Slot; BOUNDS],
+    start: [Slot; BOUNDS],
+    target: [Slot; BOUNDS],
+    out: &mut [u8],
+) -> Written
+    requires { ⌜ EntriesOf case times start target ⌝ }
+    ensures { λ r. ⌜ WriteGiven case (now (out .entry)) r (now (out .exit)) ⌝ }
+{
+    if let Judged::Refused(f) = judge::form_fault(case) {
+        return Written::Refused(f);
+    }
+    let n = case.n;
+    let horizon = case.horizon;
+    let needed = (case_length(n, times, start, target) + 7) / 8;
+    if out.len() < needed {
+        return Written::Refused(Fault::Output(needed));
+    }
+    put_case(n, horizon, times, start, target, out);
+    Written::Bytes(needed)
+}
+
 // The packed bytes of a case in front of the output, and how many they are. What stands behind them stays as it was; on a fault everything does.
 pub fn write(case: Case, out: &mut [u8]) -> Written
     ensures { λ r. ⌜ WriteGiven case (now (out .entry)) r (now (out .exit)) ⌝ }
 {
-    if let Judged::Refused(f) = judge::case_fault(case) {
-        return Written::Refused(f);
-    }
-    let needed = (case_length(case) + 7) / 8;
-    if out.len() < needed {
-        return Written::Refused(Fault::Output(needed));
-    }
-    put_case(case, out);
-    Written::Bytes(needed)
+    let times = case.times;
+    let start = case.start;
+    let target = case.target;
+    let start_slots = stated(start);
+    let target_slots = stated(target);
+    write_entries(case, times, start_slots, target_slots, out)
 }

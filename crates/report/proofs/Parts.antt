@@ -25,8 +25,9 @@ fields-next xs i h =
     let x = getD xs i (seconds (pos 0)) in
     rw (add-one, take-suc xs i (seconds (pos 0)) h, map-append field (take i xs) (x ∷ [])) (flatten-snoc (map field (take i xs)) (field x))
 
-pub lines-next : (c : Case) (start : List Seconds) (j : ℕ) → lines c start (j + 1) ≡ lines c start j ++ lineOf c start j
+pub lines-next : (parts : ℕ) (c : Case) (start : List Seconds) (j : ℕ) → lines parts c start (j + 1) ≡ lines parts c start j ++ lineOf parts c start j
 unfolding lines
-lines-next c start j =
+lines-next parts c start j =
+    let f = lineOf parts c start in
     let e : 0 + j ≡ j = omega arith in
-    rw (add-one, ← (tabulate-snoc j 0 (lineOf c start)), e) (flatten-snoc (tabulate j 0 (lineOf c start)) (lineOf c start j))
+    rw (add-one, ← (tabulate-snoc j 0 f), e) (flatten-snoc (tabulate j 0 f) (f j))

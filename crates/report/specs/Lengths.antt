@@ -10,12 +10,15 @@ fieldSize = suc mostSigned
 abbrev pub lineSize : ℕ
 lineSize = mostDigits + fieldSize * mostDepartures + 1
 
--- a word of the heading; a word, a number, a blank and a number
+-- a word of the heading; a word and a number, of which the heading has at most two
 abbrev pub wordSize : ℕ
 wordSize = 8
 
+abbrev pub numberedSize : ℕ
+numberedSize = wordSize + mostDigits
+
 abbrev pub headingSize : ℕ
-headingSize = wordSize + mostDigits + 1 + mostDigits
+headingSize = numberedSize + numberedSize
 
 -- a line for each cycle from 0 on
 abbrev pub mostLines : ℕ

@@ -4,10 +4,11 @@ ghost use mathlib.Core.Path.{_≡_};
 ghost use mathlib.Core.List.{_++_};
 ghost use Prim.Native.Nat.{_+_, _*_, _≤_};
 ghost use lib.ListN.{length, take};
-ghost use Rattle.puts.specs.Decimal.{number, mostDigits};
+ghost use Rattle.model.specs.Search.{partsOf};
+ghost use Rattle.model.specs.Faults.{network};
 ghost use Rattle.puts.specs.Written.{PutsWithin};
-ghost use Rattle.report.specs.Text.{fields, line, lines, heading, lineCount, text};
-ghost use Rattle.report.specs.Lengths.{fieldSize, lineSize, wordSize, headingSize, mostLines, textSize};
+ghost use Rattle.report.specs.Text.{fields, line, lines, reachedWord, numbered, ofParts, heading, lineCount, text};
+ghost use Rattle.report.specs.Lengths.{fieldSize, lineSize, wordSize, numberedSize, headingSize, mostLines, textSize};
 use ints::Cycle;
 use ints::Seconds;
 use model::Case;
@@ -52,7 +53,7 @@ fn put_line(
     puts::byte(out, next, b'\n')
 }
 
-// The lines of the first cycles of a run.
+// The lines of the first cycles of a run, in the parts of a second that a start of the case is in.
 fn put_lines(
     out: &mut [u8; TEXT],
     at: usize,
@@ -61,12 +62,12 @@ fn put_lines(
     count: usize,
 ) -> usize
     requires { ⌜ (case .n ≤ mostDepartures) × (at + lineSize * count ≤ textSize) ⌝ }
-    ensures { λ r. ⌜ PutsWithin (lineSize * count) (now (out .entry)) at (lines case start count) r (now (out .exit)) ⌝ }
+    ensures { λ r. ⌜ PutsWithin (lineSize * count) (now (out .entry)) at (lines (partsOf (network case)) case start count) r (now (out .exit)) ⌝ }
 {
     let n = case.n;
     let mut next = at;
     for j in 0..count {
-        let run = runs::run(case, start, Cycle(j));
+        let run = runs::run_parts(case, start, Cycle(j));
         let times = run.times;
         next = put_line(out, next, j, times, n);
     }
@@ -74,25 +75,35 @@ fn put_lines(
 }
 
 // A word and the number behind it.
-fn put_numbered(out: &mut [u8; TEXT], word: &[u8], x: u64) -> usize
-    requires { ⌜ length (now word) ≤ wordSize ⌝ }
-    ensures { λ r. ⌜ PutsWithin (wordSize + mostDigits) (now (out .entry)) 0 (now (word .entry) ++ number x) r (now (out .exit)) ⌝ }
+fn put_numbered(out: &mut [u8; TEXT], at: usize, word: &[u8], x: u64) -> usize
+    requires { ⌜ (at + numberedSize ≤ textSize) × (length (now word) ≤ wordSize) ⌝ }
+    ensures { λ r. ⌜ PutsWithin numberedSize (now (out .entry)) at (numbered (now (word .entry)) x) r (now (out .exit)) ⌝ }
 {
-    let next = puts::word(out, 0, word);
+    let next = puts::word(out, at, word);
     puts::number(out, next, x)
 }
 
-fn put_heading(out: &mut [u8; TEXT], verdict: Verdict) -> usize
-    ensures { λ r. ⌜ PutsWithin headingSize (now (out .entry)) 0 (heading verdict) r (now (out .exit)) ⌝ }
+// The heading of a cycle that is reached, with the parts of a second where the times are in more than one.
+fn put_reached(out: &mut [u8; TEXT], cycle: Cycle, parts: usize) -> usize
+    ensures { λ r. ⌜ PutsWithin headingSize (now (out .entry)) 0 (numbered reachedWord (cycle .0) ++ ofParts parts) r (now (out .exit)) ⌝ }
+{
+    let next = put_numbered(out, 0, b"reached ", cycle.0 as u64);
+    if parts <= 1 {
+        return next;
+    }
+    put_numbered(out, next, b" of ", parts as u64)
+}
+
+fn put_heading(out: &mut [u8; TEXT], verdict: Verdict, parts: usize) -> usize
+    ensures { λ r. ⌜ PutsWithin headingSize (now (out .entry)) 0 (heading verdict parts) r (now (out .exit)) ⌝ }
 {
     match verdict {
-        Verdict::Reached(cycle) => put_numbered(out, b"reached ", cycle.0 as u64),
-        Verdict::Clear(horizon) => put_numbered(out, b"clear ", horizon.0 as u64),
+        Verdict::Reached(cycle) => put_reached(out, cycle, parts),
+        Verdict::Clear(horizon) => put_numbered(out, 0, b"clear ", horizon.0 as u64),
         Verdict::Never => puts::word(out, 0, b"never"),
         Verdict::Refused(fault) => {
-            let mut next = put_numbered(out, b"refused ", fault.number() as u64);
-            next = puts::byte(out, next, b' ');
-            puts::number(out, next, fault.returned() as u64)
+            let next = put_numbered(out, 0, b"refused ", fault.number() as u64);
+            put_numbered(out, next, b" ", fault.returned() as u64)
         }
     }
 }
@@ -119,7 +130,7 @@ pub fn report(bytes: &[u8], out: &mut [u8; TEXT]) -> usize
     let case = read.case;
     let verdict = answer.verdict;
     let start = answer.start;
-    let mut next = put_heading(out, verdict);
+    let mut next = put_heading(out, verdict, answer.parts);
     next = puts::byte(out, next, b'\n');
     let count = line_count(verdict);
     put_lines(out, next, case, start, count)

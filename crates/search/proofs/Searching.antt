@@ -15,16 +15,18 @@ use Rattle.model.specs.Sizes.{mostCycles, zoneSize}
 use Rattle.model.specs.Lists.{tabulate, done, both}
 use Rattle.model.specs.Matrix.{Matrix, everything}
 use Rattle.model.specs.Network.{Network}
-use Rattle.model.specs.Search.{Outcome, reached, never, tableFull, pick, lists, previous}
+use Rattle.model.specs.Search.{Outcome, reached, never, tableFull, partsOf, startIn, lists, previous}
 use Rattle.model.specs.Search.{someLarge, firstCommon, settled, dry, searchBy, searchFrom}
 use Rattle.model.specs.Answers.{answered}
 use Rattle.model.proofs.Listed.{every-both}
 use Rattle.model.proofs.Closed.{everything-closed}
 use Rattle.model.proofs.ZoneLists.{lists-closed}
 use Rattle.model.proofs.Sizes.{none-large}
-use Rattle.model.proofs.Fitted.{target-meetable, buildable, meetable}
+use Rattle.model.proofs.Wholes.{W}
+use Rattle.model.proofs.Searched.{parts-few, first-common, parts-enough}
 use Rattle.memory.specs.Numbers.{boundsIn, timesIn}
-use Rattle.lists.specs.Lists.{seenSize, listIn, Meets}
+use Rattle.memory.proofs.Room.{target-meetable, buildable, meetable}
+use Rattle.lists.specs.Lists.{seenSize, listIn, Meets, Startable}
 use Rattle.search.specs.declared.Step.{Step}
 use Rattle.search.specs.Searching.{networkIn, Searchable, Stepping, Stepped, full, met, on}
 
@@ -35,7 +37,8 @@ module _ (w : Network) (capacity k : ℕ) (zs : List Matrix) where
   settled-full h = rw (lt-ltb capacity (length zs) h)
 
   module _ (room : length zs ≤ capacity) (small : someLarge zs ≡ false) where
-    settled-met : {c : Matrix} → firstCommon (w .n) (w .start) zs ≡ some c → settled w capacity k zs ≡ some (reached k (pick (w .n) c))
+    settled-met : {c : Matrix} → firstCommon (w .n) (w .start) zs ≡ some c
+        → settled w capacity k zs ≡ some (reached k (partsOf w) (startIn (w .n) (partsOf w) c))
     unfolding settled
     settled-met e = rw (le-ltb capacity (length zs) room, small, e)
 
@@ -54,9 +57,20 @@ unfolding dry listIn tabulate
 not-dry size zero work h = absurd (omega arith)
 not-dry size (suc count) work h = refl
 
-module _ {n capacity cycles size : ℕ} {times start target : List ℤ} (q : Searchable n capacity cycles size times start target) where
+module _ {n parts capacity cycles size : ℕ} {times start target : List ℤ} (q : Searchable n parts capacity cycles size times start target) where
   abbrev w : Network
   w = networkIn n cycles times start target
+
+  parts-are : parts ≡ partsOf w
+  unfolding partsOf
+  parts-are = q .in-parts
+
+  -- list k has a start in them, if it has one
+  starts-in : (k : ℕ) → Startable n parts start (lists w k)
+  starts-in k = record {
+    few = rw parts-are (parts-few w (q .limits .table .departures .few));
+    times = λ c e. let z = W n (partsOf w) c (parts-enough w k (first-common w k e)) in (z .zone, rw parts-are (z .is));
+  }
 
   -- list k stands at source
   pub record Reached (work : List ℤ) (count source k : ℕ) : Type 0 where
@@ -118,7 +132,7 @@ module _ {n capacity cycles size : ℕ} {times start target : List ℤ} (q : Sea
     none-beyond : someLarge (lists w (suc k)) ≡ false
     none-beyond = let l = q .limits in none-large w (l .table .times-small) (l .target-small) (l .table .departures .few) (suc k) few-cycles
 
-    pub stepping : {seen : List ℤ} → length seen ≡ seenSize → Stepping n capacity source goal count work times start seen
+    pub stepping : {seen : List ℤ} → length seen ≡ seenSize → Stepping n parts capacity source goal count work times start seen
     unfolding lists
     stepping s =
         let l = q .limits in
@@ -137,6 +151,7 @@ module _ {n capacity cycles size : ℕ} {times start target : List ℤ} (q : Sea
             each = rw (r .list) (every-both (λ d c m. record { closed = c; meetable = m }) (lists-closed w (suc k))
                 (meetable w few (t .times-small) (l .target-small) (suc k) few-cycles (l .start-small)));
           };
+          startable = rw (r .list) (starts-in (suc k));
         }
 
     -- the search from cycle k + 1 on, by what its list says
@@ -151,16 +166,16 @@ module _ {n capacity cycles size : ℕ} {times start target : List ℤ} (q : Sea
         r .rest e ∙ rw (d, wet r some-zone) (ap (onwards e) s)
 
     module _ {after : List ℤ} {s : Step}
-        (h : Stepped n capacity (suc k) goal (boundsIn start) (previous n (timesIn times) (listIn (zoneSize n) count (drop source work))) after s) where
-      -- it is list k + 1
-      is-next : Stepped n capacity (suc k) goal (boundsIn start) (lists w (suc k)) after s
+        (h : Stepped n parts capacity (suc k) goal (boundsIn start) (previous n (timesIn times) (listIn (zoneSize n) count (drop source work))) after s) where
+      -- it is list k + 1, in the parts of the network
+      is-next : Stepped n (partsOf w) capacity (suc k) goal (boundsIn start) (lists w (suc k)) after s
       unfolding lists
-      is-next = rw (← (r .list)) h
+      is-next = rw (← (r .list), ← parts-are) h
 
       pub ended : (e : Outcome) → s .ended ≡ true → s .answer ≡ answered (searchFrom w capacity cycles 1 (lists w 0) e)
       ended e t = go is-next t
         where
-          go : {s : Step} → Stepped n capacity (suc k) goal (boundsIn start) (lists w (suc k)) after s → s .ended ≡ true
+          go : {s : Step} → Stepped n (partsOf w) capacity (suc k) goal (boundsIn start) (lists w (suc k)) after s → s .ended ≡ true
               → s .answer ≡ answered (searchFrom w capacity cycles 1 (lists w 0) e)
           go (full p) t = ap answered (sym (from-here _ (settled-full w capacity (suc k) (lists w (suc k)) p) e))
           go (met p c) t = ap answered (sym (from-here _ (settled-met w capacity (suc k) (lists w (suc k)) p none-beyond c) e))
@@ -169,7 +184,7 @@ module _ {n capacity cycles size : ℕ} {times start target : List ℤ} (q : Sea
       pub onward : s .ended ≡ false → length after ≡ length work → Reached after (s .count) goal (suc k)
       onward t same = go is-next t
         where
-          go : {s : Step} → Stepped n capacity (suc k) goal (boundsIn start) (lists w (suc k)) after s → s .ended ≡ false
+          go : {s : Step} → Stepped n (partsOf w) capacity (suc k) goal (boundsIn start) (lists w (suc k)) after s → s .ended ≡ false
               → Reached after (s .count) goal (suc k)
           go (full p) t = impossible cc
           go (met p c) t = impossible cc

@@ -31,10 +31,11 @@ struct Step {
 
 // An answer without a start.
 pub fn plain(verdict: Verdict) -> Answer
-    ensures { λ r. ⌜ r ≡ record { verdict = verdict; start = allTimes [] } ⌝ }
+    ensures { λ r. ⌜ r ≡ record { verdict = verdict; parts = 0; start = allTimes [] } ⌝ }
 {
     Answer {
         verdict,
+        parts: 0,
         start: [ZERO; DEPARTURES],
     }
 }
@@ -71,11 +72,12 @@ fn one_cycle(
     start: &[i32],
     seen: &mut [i32],
     n: usize,
+    parts: usize,
     k: Cycle,
 ) -> Step
-    requires { ⌜ Stepping n capacity source goal count (now work) (now times) (now start) (now seen) ⌝ }
+    requires { ⌜ Stepping n parts capacity source goal count (now work) (now times) (now start) (now seen) ⌝ }
     ensures { λ r. ⌜
-        Stepped n capacity (k .0) goal (boundsIn (now (start .entry)))
+        Stepped n parts capacity (k .0) goal (boundsIn (now (start .entry)))
         (previous n (timesIn (now (times .entry))) (listIn (zoneSize n) count (drop source (now (work .entry))))) (now (work .exit)) r
         ⌝ }
 {
@@ -84,11 +86,12 @@ fn one_cycle(
         let answer = plain(Verdict::Refused(Fault::TableFull(k)));
         return settled(answer);
     }
-    let found = lists::first_common(work, goal, built.count, start, n);
+    let found = lists::first_common(work, goal, built.count, start, n, parts);
     if found.some {
         let start = found.start;
         let answer = Answer {
             verdict: Verdict::Reached(k),
+            parts,
             start,
         };
         return settled(answer);
@@ -101,7 +104,8 @@ fn one_cycle(
     }
 }
 
-// The answer of a search over so many cycles; end is what getting past them means. What the workspace holds afterwards is free.
+// The answer of a search over so many cycles; parts is what a start is in, end what getting past the cycles means. What the workspace holds afterwards
+// is free.
 pub fn search(
     work: &mut [i32],
     capacity: usize,
@@ -109,10 +113,11 @@ pub fn search(
     start: &[i32],
     target: &[i32],
     n: usize,
+    parts: usize,
     cycles: Cycle,
     end: End,
 ) -> Answer
-    requires { ⌜ Searchable n capacity (cycles .0) (length (now work)) (now times) (now start) (now target) ⌝ }
+    requires { ⌜ Searchable n parts capacity (cycles .0) (length (now work)) (now times) (now start) (now target) ⌝ }
     ensures { λ r. ⌜
         Searched (networkIn n (cycles .0) (now (times .entry)) (now (start .entry)) (now (target .entry))) capacity (cycles .0) end r
         ⌝ }
@@ -136,6 +141,7 @@ pub fn search(
             start,
             &mut seen,
             n,
+            parts,
             Cycle(k),
         );
         if next.ended {

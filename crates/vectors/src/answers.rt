@@ -104,11 +104,20 @@ fn packed_form(packed: Packed, capacity: usize, room: usize) -> Outcome {
     lent_to_bytes(&bytes, packed.length, capacity, &mut work, room)
 }
 
-fn write_verdict(verdict: Verdict) {
+// The parts of a second that the start is in, where there are more than one.
+fn write_parts(parts: usize) {
+    if parts > 1 {
+        io::write_all(1, b" of ");
+        text::number(parts);
+    }
+}
+
+fn write_verdict(verdict: Verdict, parts: usize) {
     match verdict {
         Verdict::Reached(k) => {
             io::write_all(1, b"reached ");
             text::number(k.0);
+            write_parts(parts);
         }
         Verdict::Clear(horizon) => {
             io::write_all(1, b"clear ");
@@ -137,7 +146,7 @@ fn write_outcome(outcome: Outcome) {
     let answer = outcome.answer;
     let verdict = answer.verdict;
     let start = answer.start;
-    write_verdict(verdict);
+    write_verdict(verdict, answer.parts);
     io::write_all(1, b", start");
     text::times(start);
     write_work(outcome.work);
@@ -153,6 +162,7 @@ fn same(a: Outcome, b: Outcome) -> bool {
     u.kind() == v.kind()
         && u.fault() == v.fault()
         && u.value() == v.value()
+        && first.parts == second.parts
         && text::same_times(x, y)
         && a.work == b.work
 }

@@ -1,10 +1,10 @@
 // Writes a case: its table, its patterns, N, and what it is called with.
 use crate::cases;
 use crate::text;
-use ints::Seconds;
 use model::BOUNDS;
 use model::Case;
 use model::DEPARTURES;
+use model::Limit;
 use model::Slot;
 
 // What stands before an entry of the table.
@@ -35,57 +35,78 @@ fn difference(i: usize, j: usize) {
     }
 }
 
-// The bound x(i) - x(j) <= b. It is written with the earlier departure first, and the clock left out.
-fn bound(i: usize, j: usize, b: Seconds) {
-    if i == 0 || (j > 0 && j < i) {
+// The sign between a difference and what bounds it.
+fn sign(least: bool, strict: bool) {
+    if least {
+        io::write_all(1, b" >");
+    } else {
+        io::write_all(1, b" <");
+    }
+    if !strict {
+        io::write_all(1, b"=");
+    }
+    io::write_all(1, b" ");
+}
+
+// The bound x(i) - x(j) <= b, or < b. It is written with the earlier departure first, and the clock left out.
+fn bound(i: usize, j: usize, limit: Limit) {
+    let b = limit.value;
+    let least = i == 0 || (j > 0 && j < i);
+    if least {
         difference(j, i);
-        io::write_all(1, b" >= ");
+        sign(true, limit.strict);
         text::opposite(b);
     } else {
         difference(i, j);
-        io::write_all(1, b" <= ");
+        sign(false, limit.strict);
         text::signed(b);
     }
 }
 
 // The bound with an entry number.
-fn numbered(n: usize, k: usize, b: Seconds) {
+fn numbered(n: usize, k: usize, limit: Limit) {
     if n == 0 {
         return;
     }
     let i = k / n;
     let j = k % n;
     if j < i {
-        bound(i, j, b);
+        bound(i, j, limit);
     } else {
-        bound(i, std::num::wrapping_add_usize(j, 1), b);
+        bound(i, std::num::wrapping_add_usize(j, 1), limit);
     }
 }
 
-// An entry of the table or of a pattern, and whether one has been written.
-fn entry(n: usize, k: usize, slot: Slot, of_table: bool, some: bool) -> bool {
-    if of_table {
-        gap(n, k);
-        time(slot);
-        return true;
-    }
-    if !slot.has {
+// A bound of a pattern, and whether one has been written.
+fn entry(n: usize, k: usize, limit: Limit, some: bool) -> bool {
+    if !limit.has {
         return some;
     }
     if some {
         io::write_all(1, b" and ");
     }
-    numbered(n, k, slot.value);
+    numbered(n, k, limit);
     true
 }
 
-// The first entries of the table or of a pattern, and whether one has been written.
-fn entries(slots: [Slot; BOUNDS], n: usize, count: usize, of_table: bool) -> bool {
-    let mut some = false;
+// The first entries of a table.
+fn times(slots: [Slot; BOUNDS], n: usize, count: usize) {
     for k in 0..BOUNDS {
         if k < count {
             let slot = slots[k];
-            some = entry(n, k, slot, of_table, some);
+            gap(n, k);
+            time(slot);
+        }
+    }
+}
+
+// The first bounds of a pattern, and whether one has been written.
+fn bounds(limits: [Limit; BOUNDS], n: usize, count: usize) -> bool {
+    let mut some = false;
+    for k in 0..BOUNDS {
+        if k < count {
+            let limit = limits[k];
+            some = entry(n, k, limit, some);
         }
     }
     some
@@ -98,30 +119,40 @@ pub(crate) fn table(case: Case) {
         io::write_all(1, b"n ");
         text::number(n);
     } else {
-        let times = case.times;
+        let slots = case.times;
         io::write_all(1, b"A =");
-        entries(times, n, cases::product(n, n), true);
+        times(slots, n, cases::product(n, n));
     }
 }
 
-fn pattern(bounds: [Slot; BOUNDS], n: usize) {
-    if !entries(bounds, n, cases::pattern_size(n), false) {
+fn pattern(limits: [Limit; BOUNDS], n: usize) {
+    if !bounds(limits, n, cases::pattern_size(n)) {
         io::write_all(1, b"any");
     }
 }
 
-// A call for a verdict.
-pub(crate) fn call(case: Case, capacity: usize, room: usize) {
+// The table and the two patterns.
+pub(crate) fn network(case: Case) {
     let start = case.start;
     let target = case.target;
-    let horizon = case.horizon;
     table(case);
     io::write_all(1, b", ");
     pattern(start, case.n);
     io::write_all(1, b" to ");
     pattern(target, case.n);
+}
+
+// The whole case.
+pub(crate) fn whole(case: Case) {
+    let horizon = case.horizon;
+    network(case);
     io::write_all(1, b", N ");
     text::number(horizon.0);
+}
+
+// A call for a verdict.
+pub(crate) fn call(case: Case, capacity: usize, room: usize) {
+    whole(case);
     io::write_all(1, b", Z ");
     text::number(capacity);
     io::write_all(1, b", workspace ");

@@ -6,6 +6,8 @@ use ints::Seconds;
 use model::BOUNDS;
 use model::Case;
 use model::DEPARTURES;
+use model::FREE;
+use model::Limit;
 use model::NOTHING;
 use model::Slot;
 
@@ -47,16 +49,43 @@ pub(crate) fn table2(a: i64, b: i64, c: i64, d: i64) -> [Slot; BOUNDS] {
     table
 }
 
-// The pattern without a bound.
-pub(crate) fn any() -> [Slot; BOUNDS] {
-    [NOTHING; BOUNDS]
-}
-
-// A table or a pattern with one entry changed.
-pub(crate) fn changed(entries: [Slot; BOUNDS], place: usize, value: Slot) -> [Slot; BOUNDS] {
-    let mut next = entries;
+// A table with one entry changed.
+pub(crate) fn changed(table: [Slot; BOUNDS], place: usize, value: Slot) -> [Slot; BOUNDS] {
+    let mut next = table;
     if place < BOUNDS {
         next[place] = value;
+    }
+    next
+}
+
+// A bound that is not strict.
+pub(crate) fn limit(value: i64) -> Limit {
+    Limit {
+        has: true,
+        strict: false,
+        value: Seconds(value),
+    }
+}
+
+// A value marked absent, with a mark or without.
+pub(crate) fn no_limit(value: i64, strict: bool) -> Limit {
+    Limit {
+        has: false,
+        strict,
+        value: Seconds(value),
+    }
+}
+
+// The pattern without a bound.
+pub(crate) fn any() -> [Limit; BOUNDS] {
+    [FREE; BOUNDS]
+}
+
+// A pattern with one bound changed.
+pub(crate) fn limited(pattern: [Limit; BOUNDS], place: usize, bound: Limit) -> [Limit; BOUNDS] {
+    let mut next = pattern;
+    if place < BOUNDS {
+        next[place] = bound;
     }
     next
 }
@@ -94,75 +123,140 @@ fn pair(n: usize, i: usize, j: usize) -> usize {
     if j > i { row + j - 1 } else { row + j }
 }
 
+// A pattern with x(i) - x(j) <= b besides, or < b.
+fn bounded(
+    pattern: [Limit; BOUNDS],
+    n: usize,
+    i: usize,
+    j: usize,
+    value: Seconds,
+    strict: bool,
+) -> [Limit; BOUNDS] {
+    let place = pair(n, i, j);
+    let bound = Limit {
+        has: true,
+        strict,
+        value,
+    };
+    limited(pattern, place, bound)
+}
+
 // A pattern with x(i) - x(j) <= b besides.
 pub(crate) fn at_most(
-    pattern: [Slot; BOUNDS],
+    pattern: [Limit; BOUNDS],
     n: usize,
     i: usize,
     j: usize,
     b: i32,
-) -> [Slot; BOUNDS] {
-    let place = pair(n, i, j);
+) -> [Limit; BOUNDS] {
     let value = Seconds::of(b);
-    changed(pattern, place, Slot { has: true, value })
+    bounded(pattern, n, i, j, value, false)
+}
+
+// With x(i) - x(j) < b.
+pub(crate) fn below(
+    pattern: [Limit; BOUNDS],
+    n: usize,
+    i: usize,
+    j: usize,
+    b: i32,
+) -> [Limit; BOUNDS] {
+    let value = Seconds::of(b);
+    bounded(pattern, n, i, j, value, true)
 }
 
 fn opposite(a: i32) -> Seconds {
     Seconds::of(a).negated()
 }
 
-// A pattern with x(i) - x(j) >= a besides.
+// With x(i) - x(j) >= a.
 pub(crate) fn at_least(
-    pattern: [Slot; BOUNDS],
+    pattern: [Limit; BOUNDS],
     n: usize,
     i: usize,
     j: usize,
     a: i32,
-) -> [Slot; BOUNDS] {
-    let place = pair(n, j, i);
+) -> [Limit; BOUNDS] {
     let value = opposite(a);
-    changed(pattern, place, Slot { has: true, value })
+    bounded(pattern, n, j, i, value, false)
 }
 
-// A pattern with a <= x(i) - x(j) <= b besides.
+// With x(i) - x(j) > a.
+pub(crate) fn above(
+    pattern: [Limit; BOUNDS],
+    n: usize,
+    i: usize,
+    j: usize,
+    a: i32,
+) -> [Limit; BOUNDS] {
+    let value = opposite(a);
+    bounded(pattern, n, j, i, value, true)
+}
+
+// With a <= x(i) - x(j) <= b.
 pub(crate) fn within(
-    pattern: [Slot; BOUNDS],
+    pattern: [Limit; BOUNDS],
     n: usize,
     i: usize,
     j: usize,
     a: i32,
     b: i32,
-) -> [Slot; BOUNDS] {
+) -> [Limit; BOUNDS] {
     let lower = at_least(pattern, n, i, j, a);
     at_most(lower, n, i, j, b)
 }
 
-// d <= b, d >= a, a <= d <= b, where d is x(1) - x(2) of two departures.
-pub(crate) fn d_at_most(b: i32) -> [Slot; BOUNDS] {
+// With a < x(i) - x(j) < b.
+pub(crate) fn between(
+    pattern: [Limit; BOUNDS],
+    n: usize,
+    i: usize,
+    j: usize,
+    a: i32,
+    b: i32,
+) -> [Limit; BOUNDS] {
+    let lower = above(pattern, n, i, j, a);
+    below(lower, n, i, j, b)
+}
+
+// d <= b, d < b, d >= a, d > a, a <= d <= b, a < d < b, where d is x(1) - x(2) of two departures.
+pub(crate) fn d_at_most(b: i32) -> [Limit; BOUNDS] {
     at_most(any(), 2, 1, 2, b)
 }
 
-pub(crate) fn d_at_least(a: i32) -> [Slot; BOUNDS] {
+pub(crate) fn d_below(b: i32) -> [Limit; BOUNDS] {
+    below(any(), 2, 1, 2, b)
+}
+
+pub(crate) fn d_at_least(a: i32) -> [Limit; BOUNDS] {
     at_least(any(), 2, 1, 2, a)
 }
 
-pub(crate) fn d_within(a: i32, b: i32) -> [Slot; BOUNDS] {
+pub(crate) fn d_above(a: i32) -> [Limit; BOUNDS] {
+    above(any(), 2, 1, 2, a)
+}
+
+pub(crate) fn d_within(a: i32, b: i32) -> [Limit; BOUNDS] {
     within(any(), 2, 1, 2, a, b)
 }
 
+pub(crate) fn d_between(a: i32, b: i32) -> [Limit; BOUNDS] {
+    between(any(), 2, 1, 2, a, b)
+}
+
 // x(1) = a of one departure.
-pub(crate) fn at_time(a: i32) -> [Slot; BOUNDS] {
+pub(crate) fn at_time(a: i32) -> [Limit; BOUNDS] {
     within(any(), 1, 1, 0, a, a)
 }
 
 // x(1) = a and x(2) = b of two departures.
-pub(crate) fn at_times(a: i32, b: i32) -> [Slot; BOUNDS] {
+pub(crate) fn at_times(a: i32, b: i32) -> [Limit; BOUNDS] {
     let first = within(any(), 2, 1, 0, a, a);
     within(first, 2, 2, 0, b, b)
 }
 
 // Both of two times from 0 to 1.
-pub(crate) fn square() -> [Slot; BOUNDS] {
+pub(crate) fn square() -> [Limit; BOUNDS] {
     let first = within(any(), 2, 1, 0, 0, 1);
     within(first, 2, 2, 0, 0, 1)
 }
@@ -184,8 +278,8 @@ pub(crate) fn case_of(
     n: usize,
     horizon: usize,
     times: [Slot; BOUNDS],
-    start: [Slot; BOUNDS],
-    target: [Slot; BOUNDS],
+    start: [Limit; BOUNDS],
+    target: [Limit; BOUNDS],
 ) -> Case {
     Case {
         n,
@@ -200,8 +294,8 @@ pub(crate) fn case_of(
 pub(crate) fn one(
     horizon: usize,
     times: [Slot; BOUNDS],
-    start: [Slot; BOUNDS],
-    target: [Slot; BOUNDS],
+    start: [Limit; BOUNDS],
+    target: [Limit; BOUNDS],
 ) -> Case {
     case_of(1, horizon, times, start, target)
 }
@@ -209,8 +303,8 @@ pub(crate) fn one(
 pub(crate) fn two(
     horizon: usize,
     times: [Slot; BOUNDS],
-    start: [Slot; BOUNDS],
-    target: [Slot; BOUNDS],
+    start: [Limit; BOUNDS],
+    target: [Limit; BOUNDS],
 ) -> Case {
     case_of(2, horizon, times, start, target)
 }

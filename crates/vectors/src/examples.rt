@@ -12,7 +12,7 @@ use crate::packing::Packed;
 use crate::timetable::from2;
 use crate::timetable::run_line;
 use model::BOUNDS;
-use model::Slot;
+use model::Limit;
 
 // R, d <= 0 to -1 <= d <= 1.
 fn near(horizon: usize) {
@@ -109,7 +109,7 @@ fn powers() {
 }
 
 // R, to the pattern with x1 = 0 besides.
-fn clock(start: [Slot; BOUNDS], pattern: [Slot; BOUNDS], horizon: usize) {
+fn clock(start: [Limit; BOUNDS], pattern: [Limit; BOUNDS], horizon: usize) {
     let target = cases::within(pattern, 2, 1, 0, 0, 0);
     example(two(horizon, cases::r(), start, target));
 }

@@ -128,7 +128,7 @@ fn in_packed() {
 fn absent() {
     let table = cases::changed(cases::r(), 0, cases::absent(86401));
     noted(b", the blank holds 86401", cases::unbounded(3, table));
-    let none = cases::changed(any(), 1, cases::absent(1000001));
+    let none = cases::limited(any(), 1, cases::no_limit(1000001, false));
     noted(
         b", absent bounds hold 1000001",
         one(5, cases::o(), none, none),
@@ -138,8 +138,8 @@ fn absent() {
 // Values beyond n are ignored.
 fn beyond() {
     let table = cases::changed(cases::o(), 1, cases::slot(86401));
-    let start = cases::changed(cases::at_time(0), 2, cases::slot(1000001));
-    let target = cases::changed(cases::at_time(5), 55, cases::slot(-1000001));
+    let start = cases::limited(cases::at_time(0), 2, cases::limit(1000001));
+    let target = cases::limited(cases::at_time(5), 55, cases::limit(-1000001));
     noted(
         b", 86401 and 1000001 beyond n",
         one(5, table, start, target),

@@ -17,6 +17,7 @@ use model::BOUNDS;
 use model::CYCLES;
 use model::Case;
 use model::DEPARTURES;
+use model::Limit;
 use model::NOTHING;
 use model::Slot;
 
@@ -31,7 +32,7 @@ fn early() -> [Slot; BOUNDS] {
 }
 
 // x1 = -100 and x2 = -100 and x3 <= -300
-fn early_start() -> [Slot; BOUNDS] {
+fn early_start() -> [Limit; BOUNDS] {
     let first = cases::within(any(), 3, 1, 0, -100, -100);
     let second = cases::within(first, 3, 2, 0, -100, -100);
     cases::at_most(second, 3, 3, 0, -300)
@@ -77,7 +78,7 @@ fn ring() -> [Slot; BOUNDS] {
 }
 
 // x1 = 0 and each other time a.
-fn level(a: i32) -> [Slot; BOUNDS] {
+fn level(a: i32) -> [Limit; BOUNDS] {
     let one = cases::within(any(), 7, 1, 0, 0, 0);
     let two = cases::within(one, 7, 2, 0, a, a);
     let three = cases::within(two, 7, 3, 0, a, a);
@@ -110,8 +111,8 @@ fn longest(bound: i64) -> Case {
         DEPARTURES,
         CYCLES,
         [slot(86400); BOUNDS],
-        [slot(bound); BOUNDS],
-        [slot(bound); BOUNDS],
+        [cases::limit(bound); BOUNDS],
+        [cases::limit(bound); BOUNDS],
     )
 }
 

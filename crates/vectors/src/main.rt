@@ -1,4 +1,4 @@
-// Runs document 01's examples, limits and faults, and document 002's reach sets, on the library: a line for each call.
+// Runs document 01's examples, limits and faults, document 002's reach sets, and strict bounds, on the library: a line for each call.
 mod answers;
 mod case_text;
 mod cases;
@@ -11,8 +11,10 @@ mod limits;
 mod packing;
 mod reach_sets;
 mod run_limits;
+mod strict;
 mod text;
 mod timetable;
+mod writing;
 
 fn main() {
     io::write_all(
@@ -26,4 +28,6 @@ fn main() {
     faults::show();
     first_fault::show();
     larger::show();
+    strict::show();
+    writing::show();
 }

@@ -20,6 +20,15 @@ pub(crate) fn pack(case: Case) -> Packed {
     }
 }
 
+// What the writer says of a case and an output of so many bytes.
+pub(crate) fn write(case: Case, size: usize) -> Written {
+    let mut bytes = [0u8; SIZE];
+    if size < SIZE {
+        return packer::write(case, &mut bytes[..size]);
+    }
+    packer::write(case, &mut bytes)
+}
+
 pub(crate) fn set_bit(bytes: &mut [u8; SIZE], at: usize) {
     let i = at / 8;
     if i < SIZE {

@@ -10,7 +10,7 @@ use Rattle.ints.specs.declared.Cycle.{Cycle}
 use Rattle.search.specs.declared.End.the-variants as end
 use Rattle.model.specs.Matrix.{Matrix}
 use Rattle.model.specs.Network.{Network, Repeat}
-use Rattle.model.specs.Search.{Outcome, planWith, settled, searchFrom}
+use Rattle.model.specs.Search.{Outcome, partsOf, planWith, settled, searchFrom}
 use Rattle.model.specs.Answers.{cycleNumber}
 use Rattle.verdict.specs.Planning.{Planned}
 
@@ -44,5 +44,5 @@ within w h = record { n = w .n; horizon = h; times = w .times; start = w .start;
 
 pub same-search : (w : Network) (h capacity r k : ℕ) (zs : List Matrix) (end : Outcome)
     → searchFrom (within w h) capacity r k zs end ≡ searchFrom w capacity r k zs end
-unfolding searchFrom settled
+unfolding searchFrom settled partsOf
 same-search w h capacity r k zs end = refl

@@ -3,20 +3,21 @@ use Prim.Native.Nat.{ℕ, _≤_}
 use native.Mathlib.Omega.{arith}
 use mathlib.Core.Path.{_≡_, refl, ap, _∙_}
 use mathlib.Core.Bool.{Bool, _||_}
-use mathlib.Core.List.{List, []}
+use mathlib.Core.List.{List, [], map}
 use mathlib.Core.Option.{some}
 use lib.IntN.{ℤ}
 use lib.ListN.{length, take}
 use lib.Seq.{length-take-le}
 use Rattle.model.specs.declared.Case.{Case}
 use Rattle.model.specs.declared.Answer.{Answer}
+use Rattle.model.specs.declared.Limit.{Limit}
 use Rattle.model.specs.Sizes.{mostCycles, boundLimit, tableSize, patternSize, mostBounds}
 use Rattle.model.specs.Pattern.{onlyDifferences}
 use Rattle.model.specs.Network.{Network, Repeat, repeatOf, firstRepeat, powersFrom}
 use Rattle.model.specs.Search as S
 use Rattle.model.specs.Search.{plan, planWith, lists, outcome}
 use Rattle.model.specs.Answers.{answered}
-use Rattle.model.specs.Faults.{network, callFault, caseFault, tableFault, patternsFault, tableOf}
+use Rattle.model.specs.Faults.{network, callFault, caseFault, tableFault, patternsFault, tableOf, boundOf, stated}
 use Rattle.model.specs.Demands.{InLimits}
 use Rattle.model.specs.Lists.{Every}
 use Rattle.model.specs.Conditions.{Departures, TableLimits, InLimit}
@@ -26,8 +27,10 @@ use Rattle.model.proofs.Places.{table-fits, pattern-fits}
 use Rattle.model.proofs.Repeats.{repeat-sound}
 use Rattle.model.proofs.Searched as Q
 use Rattle.model.proofs.Searched.{plan-is}
-use Rattle.memory.specs.Numbers.{boundsIn}
-use Rattle.memory.specs.Conditions.{TableIn, PatternIn, NumbersIn}
+use Rattle.memory.specs.Numbers.{boundsIn, timesIn}
+use Rattle.memory.specs.Conditions.{TableIn, PatternIn}
+use Rattle.judge.specs.Judgement.{startParts}
+use Rattle.judge.proofs.Laws.{parts-are}
 use Rattle.powers.specs.declared.Repeated.{Repeated}
 use Rattle.powers.specs.Readings.{repeatRead}
 use Rattle.powers.proofs.Places.{of-case}
@@ -36,11 +39,15 @@ use Rattle.verdict.specs.declared.Plan.{Plan}
 use Rattle.verdict.specs.Planning.{Planned}
 use Rattle.verdict.proofs.Plans.{same-search}
 
+-- a pattern in memory
+abbrev PatternOf : ℕ → List Limit → List ℤ → Type 0
+PatternOf n limits numbers = (boundsIn (take (patternSize n) numbers) ≡ map boundOf (take (patternSize n) limits)) × (length numbers ≡ mostBounds)
+
 -- a case in memory
 pub record CaseIn (c : Case) (times start target : List ℤ) : Type 0 where
-  pub times-in : NumbersIn (tableSize (c .n)) (c .times) times
-  pub start-in : NumbersIn (patternSize (c .n)) (c .start) start
-  pub target-in : NumbersIn (patternSize (c .n)) (c .target) target
+  pub times-in : (timesIn (take (tableSize (c .n)) times) ≡ tableOf (c .n) (c .times)) × (length times ≡ mostBounds)
+  pub start-in : PatternOf (c .n) (c .start) start
+  pub target-in : PatternOf (c .n) (c .target) target
 
 -- the table and a pattern in the first numbers of an array
 module _ {n : ℕ} (d : Departures n) (numbers : List ℤ) (long : length numbers ≡ mostBounds) where
@@ -65,13 +72,13 @@ module _ (c : Case) (capacity size : ℕ) (h : InLimits c capacity size) where
   unfolding callFault caseFault tableFault
   times-in-limit = let facts = simp no-fault at h in every-map (wider-limit (omega arith)) (rows-in (facts .0 .0 .1 .1))
 
-  pub start-in-limit : Every (InLimit boundLimit) (take (patternSize (c .n)) (c .start))
+  pub start-in-limit : Every (λ e. InLimit boundLimit (stated e)) (take (patternSize (c .n)) (c .start))
   unfolding callFault caseFault patternsFault
-  start-in-limit = let facts = simp no-fault at h in facts .0 .1 .0
+  start-in-limit = let facts = simp no-fault at h in every-map (λ e b. b .0) (facts .0 .1 .0)
 
-  pub target-in-limit : Every (InLimit boundLimit) (take (patternSize (c .n)) (c .target))
+  pub target-in-limit : Every (λ e. InLimit boundLimit (stated e)) (take (patternSize (c .n)) (c .target))
   unfolding callFault caseFault patternsFault
-  target-in-limit = let facts = simp no-fault at h in facts .0 .1 .1
+  target-in-limit = let facts = simp no-fault at h in every-map (λ e b. b .0) (facts .0 .1 .1)
 
   pub powers-ready : TableLimits (c .n) (tableOf (c .n) (c .times))
   unfolding network
@@ -91,17 +98,18 @@ module _ (c : Case) (capacity size : ℕ) (h : InLimits c capacity size) where
     to = take (patternSize (c .n)) target
 
     -- the network in memory can be searched
-    pub searchable : {cycles : ℕ} → cycles ≤ c .horizon .0 → Searchable (c .n) capacity cycles size table from to
+    pub searchable : {parts cycles : ℕ} → parts ≡ startParts c → cycles ≤ c .horizon .0 → Searchable (c .n) parts capacity cycles size table from to
     unfolding network
-    searchable k =
+    searchable p k =
         let (some-zones, few-zones, long) = room-of c capacity size h in
         record {
           horizon = c .horizon .0;
-          limits = rw (e .times-in .times, e .start-in .bounds, e .target-in .bounds) (limits-of c capacity size h);
+          limits = rw (e .times-in .0, e .start-in .0, e .target-in .0) (limits-of c capacity size h);
+          in-parts = rw (e .times-in .0, e .start-in .0, e .target-in .0) (p ∙ parts-are c departures);
           within = k;
-          table = in-table departures times (e .times-in .size);
-          start-in = in-pattern departures start (e .start-in .size) refl;
-          target-in = in-pattern departures target (e .target-in .size) refl;
+          table = in-table departures times (e .times-in .1);
+          start-in = in-pattern departures start (e .start-in .1) refl;
+          target-in = in-pattern departures target (e .target-in .1) refl;
           some-zones = some-zones;
           long = long;
         }
@@ -112,7 +120,7 @@ module _ (c : Case) (capacity size : ℕ) (h : InLimits c capacity size) where
         → free ≡ (onlyDifferences (c .n) (boundsIn from) || onlyDifferences (c .n) (boundsIn to))
         → Planned (planWith (c .horizon .0) (repeatRead rep) free) p → Planned (plan (network c)) p
     unfolding plan network
-    planned rep free r f p = let r′ = r ∙ of-case c in rw (r′, f, e .start-in .bounds, e .target-in .bounds) at p
+    planned rep free r f p = let r′ = r ∙ of-case c in rw (r′, f, e .start-in .0, e .target-in .0) at p
 
     -- and what the search over it answers is the outcome
     pub found : {p : Plan} {r : Answer} → Planned (plan (network c)) p
@@ -121,7 +129,7 @@ module _ (c : Case) (capacity size : ℕ) (h : InLimits c capacity size) where
     found pl s =
         let w = network c in
         let same = same-search w (plan w .cycles) capacity (plan w .cycles) 1 (lists w 0) (plan w .end) in
-        (rw (pl .cycles, pl .end, e .times-in .times, e .start-in .bounds, e .target-in .bounds) at s) ∙ ap answered same
+        (rw (pl .cycles, pl .end, e .times-in .0, e .start-in .0, e .target-in .0) at s) ∙ ap answered same
 
 -- the searched horizon is within the horizon
 pub plan-within : (w : Network) → plan w .cycles ≤ w .horizon

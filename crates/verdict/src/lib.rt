@@ -82,9 +82,9 @@ fn searched(case: Case, capacity: usize, work: &mut [i32]) -> Answer
     let table = case.times;
     let from = case.start;
     let to = case.target;
-    let times = memory::numbers_in(table, count);
-    let start = memory::numbers_in(from, size);
-    let target = memory::numbers_in(to, size);
+    let times = memory::times_in(table, count);
+    let start = memory::bounds_in(from, size);
+    let target = memory::bounds_in(to, size);
     let times = &times[..count];
     let start = &start[..size];
     let target = &target[..size];
@@ -93,7 +93,8 @@ fn searched(case: Case, capacity: usize, work: &mut [i32]) -> Answer
     let plan = plan_of(repeated, free, case.horizon);
     let cycles = plan.cycles;
     let end = plan.end;
-    let answer = search::search(work, capacity, times, start, target, n, cycles, end);
+    let parts = judge::parts(case);
+    let answer = search::search(work, capacity, times, start, target, n, parts, cycles, end);
     clear(work);
     answer
 }

@@ -1,67 +1,43 @@
 -- What the functions inside this crate require and ensure.
 use Prim.Native.Nat.{ℕ, suc, _+_, _*_, _≤_, _<_}
 use mathlib.Core.Path.{_≡_}
-use mathlib.Core.List.{List, [], _∷_, flatten, map}
-use mathlib.Core.Option.{some}
+use mathlib.Core.List.{List, [], _∷_, flatten}
 use lib.IntN.{ℤ, natAbs}
 use lib.ListN.{length, getD}
 use Rattle.ints.specs.declared.Seconds.{Seconds}
-use Rattle.model.specs.Lists.{tabulate, Every}
-use Rattle.model.specs.Bound.{Bound, LeB, plus, tighter}
-use Rattle.model.specs.Matrix.{Matrix, entry, Constraint}
-use Rattle.model.specs.Network.{Time, clocked}
+use Rattle.model.specs.Lists.{tabulate}
+use Rattle.model.specs.Bound.{Bound}
+use Rattle.model.specs.Matrix.{Matrix, Constraint}
+use Rattle.model.specs.Network.{Time}
 use Rattle.model.specs.Pattern.{pairBound}
-use Rattle.model.specs.Search.{chosen, attains, keeps, greatestOr}
-use Rattle.model.specs.Conditions.{howEarly, howLate, Fits, Chosen, Cols, Small, Fitting}
+use Rattle.model.specs.Search.{chosen, attains, keeps}
+use Rattle.model.specs.Conditions.{Chosen, Cols}
 use Rattle.memory.specs.Numbers.{boundsIn, timesIn, Limit, InMemory}
 use Rattle.memory.specs.Conditions.{ZoneIn, TableIn, PatternIn}
+use Rattle.memory.specs.Matrices.{RowFilled, Relaxable, Takes, TakesOne}
 use Rattle.zones.specs.declared.Choice.{Choice}
-use Rattle.zones.specs.Conditions.{ClosedIn}
 
 -- the most that a limit is in size: a bound and two times, each a number in memory
 abbrev pub LimitMost : ℕ
 LimitMost = 3 * InMemory
 
--- ---- stores by rows
--- row i of d is f in its first j places; all else is as in d₀
-pub record RowFilled (n : ℕ) (d₀ d : Matrix) (f : ℕ → Bound) (i j : ℕ) : Type 0 where
-  pub done : (l : ℕ) → l < suc n → l < j → entry (suc n) d i l ≡ f l
-  pub left : (l : ℕ) → l < suc n → j ≤ l → entry (suc n) d i l ≡ entry (suc n) d₀ i l
-  pub others : (k l : ℕ) → k < suc n → l < suc n → (k ≡ i → ⊥) → entry (suc n) d k l ≡ entry (suc n) d₀ k l
-
+-- ---- the conditions on matrices, of a zone in memory
 -- row i of z′ is f, and all else is as in z
 abbrev pub RowMade : ℕ → List ℤ → List ℤ → (ℕ → Bound) → ℕ → Type 0
 RowMade n z z′ f i = RowFilled n (boundsIn z) (boundsIn z′) f i (suc n)
 
--- entry (i, j), or the way by row b where that is tighter: `way` bounds x(i) - x(b)
-abbrev pub across : ℕ → Matrix → ℕ → ℕ → Bound → ℕ → Bound
-across n d i b way j = tighter (entry (suc n) d i j) (plus way (entry (suc n) d b j))
+-- row i can take in the way by row b
+abbrev pub RelaxReady : ℕ → List ℤ → ℕ → ℕ → Bound → Type 0
+RelaxReady n z i b way = Relaxable n Limit (InMemory + LimitMost) z (boundsIn z) i b way
 
--- row i can be made so
-pub record RelaxReady (n : ℕ) (z : List ℤ) (i b : ℕ) (way : Bound) : Type 0 where
-  pub zone : ZoneIn n z
-  pub row : i < suc n
-  pub base : b < suc n
-  pub way-small : Small (InMemory + LimitMost) way
-  pub closed : (j : ℕ) → j < suc n → LeB (entry (suc n) (boundsIn z) i j) (plus (entry (suc n) (boundsIn z) i b) (entry (suc n) (boundsIn z) b j))
-  pub new-small : (j : ℕ) → j < suc n → Small Limit (across n (boundsIn z) i b way j)
+-- z can take in the constraints ks, and one with the limit c
+abbrev pub Taking : ℕ → List ℤ → List Constraint → Type 0
+Taking n z ks = Takes n Limit (boundsIn z) ks
 
--- ---- constraints taken in one by one
--- z can take in the constraints ks
-pub record Taking (n : ℕ) (z : List ℤ) (ks : List Constraint) : Type 0 where
-  pub set : ClosedIn n z
-  pub fits : Every (Fits (suc n)) ks
-  pub fitting : Fitting (suc n) Limit (some (boundsIn z)) ks
+abbrev pub TakingOne : ℕ → List ℤ → ℕ → ℕ → Bound → Type 0
+TakingOne n z a b c = TakesOne n Limit LimitMost (boundsIn z) a b c
 
--- x(a) - x(b) is within c
-abbrev pub limited : ℕ → ℕ → Bound → List Constraint
-limited a b c = record { row = a; col = b; limit = c } ∷ []
-
--- z can take it in, and c is small enough to be added to
-pub record TakingOne (n : ℕ) (z : List ℤ) (a b : ℕ) (c : Bound) : Type 0 where
-  pub taking : Taking n z (limited a b c)
-  pub small : Small LimitMost c
-
+-- ---- constraints
 -- that the image keeps to d in two rows, with the columns chosen: one way, and both ways
 abbrev pub keepOne : ℕ → List Time → Matrix → Choice → Choice → List Constraint
 keepOne n a d c e = keeps n a d (c .row) (c .column) (e .row) (e .column) ∷ []
@@ -119,17 +95,3 @@ pub record PairRowReady (n : ℕ) (zone pattern : List ℤ) (i : ℕ) : Type 0 w
   pub taking : Taking n zone (pairRow n (boundsIn pattern) i)
   pub limits : PatternIn n pattern
   pub row : i < suc n
-
--- ---- the start that is picked
-abbrev pub values : List Seconds → List ℤ
-values xs = map (λ x. x .0) xs
-
--- the times xs of the departures before t are small
-pub record NextReady (n : ℕ) (z xs : List ℤ) (t : ℕ) : Type 0 where
-  pub zone : ZoneIn n z
-  pub to-n : t ≤ n
-  pub small : (s : ℕ) → s < t → natAbs (clocked xs s) ≤ t * InMemory
-
-pub record NextIs (n : ℕ) (z xs : List ℤ) (t : ℕ) (r : Seconds) : Type 0 where
-  pub is : r .0 ≡ greatestOr (howEarly (suc n) (boundsIn z) t (clocked xs)) (howLate (suc n) (boundsIn z) t (clocked xs))
-  pub small : natAbs (r .0) ≤ suc t * InMemory

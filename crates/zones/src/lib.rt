@@ -1,28 +1,24 @@
-// Zones in memory: one more constraint in place, what a row of a preimage adds, what a zone has in common with a pattern,
-// and the start that is picked.
+// Zones in memory: one more constraint in place, what a row of a preimage adds, what a zone has in common with a pattern.
 ghost use mathlib.Core.Path.{_≡_};
-ghost use Prim.Native.Nat.{suc, _≤_, _<_};
-ghost use Rattle.model.specs.Sizes.{mostDepartures};
-ghost use Rattle.model.specs.Bound.{most};
+ghost use Prim.Native.Nat.{suc, _<_};
 ghost use Rattle.model.specs.Matrix.{diagonal, everything};
 ghost use Rattle.model.specs.Pattern.{patternConstraints};
-ghost use Rattle.model.specs.Network.{clocked};
-ghost use Rattle.model.specs.Search.{attains, rowConstraints, greatestOr, pick};
-ghost use Rattle.model.specs.Answers.{allTimes};
-ghost use Rattle.model.specs.Conditions.{Small};
-ghost use Rattle.memory.specs.Numbers.{boundsIn, timesIn, asBound, Limit, Widest};
+ghost use Rattle.model.specs.Search.{attains, rowConstraints};
+ghost use Rattle.memory.specs.Numbers.{ofHalves, boundsIn, timesIn, asBound};
 ghost use Rattle.memory.specs.Conditions.{ZoneIn};
+ghost use Rattle.memory.specs.Matrices.{across, limited};
 ghost use Rattle.zones.specs.Conditions.{Taken, RowReady, CommonReady};
-ghost use Rattle.zones.specs.Inner.{RowMade, across, RelaxReady, TakingOne, limited, Adds, Added, keepOne, keepBoth, images, pairRow};
-ghost use Rattle.zones.specs.Inner.{AttainReady, KeepReady, ImagesReady, PairRowReady, values, NextReady, NextIs};
+ghost use Rattle.zones.specs.Inner.{RowMade, RelaxReady, TakingOne, Adds, Added, keepOne, keepBoth, images, pairRow};
+ghost use Rattle.zones.specs.Inner.{AttainReady, KeepReady, ImagesReady, PairRowReady};
 use ints::Seconds;
 use ints::ZERO;
+use memory::Halves;
 use memory::Number;
 use memory::bound_at;
+use memory::diagonal;
 use memory::pair_bound;
 use memory::put;
 use memory::time_at;
-use model::DEPARTURES;
 
 // The column of a row in a selection.
 struct Choice {
@@ -50,7 +46,7 @@ fn relax_row(zone: &mut [i32], n: usize, i: usize, b: usize, way: Number)
     requires { ⌜ RelaxReady n (now zone) i b (asBound way) ⌝ }
     ensures { λ r. ⌜ RowMade n (now (zone .entry)) (now (zone .exit)) (across n (boundsIn (now (zone .entry))) i b (asBound way)) i ⌝ }
 {
-    let Number::Secs(c) = way else {
+    let Number::Upto(c) = way else {
         return;
     };
     if bound_at(zone, n, i, b).implies(c) {
@@ -59,13 +55,13 @@ fn relax_row(zone: &mut [i32], n: usize, i: usize, b: usize, way: Number)
     relax_entries(zone, n, i, b, way)
 }
 
-// One more constraint, in place: x(a) - x(b) ≤ c. False where no times are left. Row b is not changed
-// by the loop, since x(b) - x(a) may be as large as -c.
-fn constrain(zone: &mut [i32], n: usize, a: usize, b: usize, c: Seconds) -> bool
-    requires { ⌜ TakingOne n (now zone) a b (most (c .0)) ⌝ }
-    ensures { λ r. ⌜ Taken n (now (zone .entry)) (limited a b (most (c .0))) r (now (zone .exit)) ⌝ }
+// One more constraint, in place: x(a) - x(b) is within c. False where no times are left. Row b is not changed
+// by the loop, since the way round, from b to a and back by c, is not negative.
+fn constrain(zone: &mut [i32], n: usize, a: usize, b: usize, c: Halves) -> bool
+    requires { ⌜ TakingOne n (now zone) a b (ofHalves (c .0)) ⌝ }
+    ensures { λ r. ⌜ Taken n (now (zone .entry)) (limited a b (ofHalves (c .0))) r (now (zone .exit)) ⌝ }
 {
-    let limit = Number::Secs(c);
+    let limit = Number::Upto(c);
     let around = bound_at(zone, n, b, a).plus(limit);
     if around.negative() {
         return false;
@@ -84,24 +80,13 @@ fn take_in(zone: &mut [i32], n: usize, a: usize, b: usize, limit: Number) -> boo
     requires { ⌜ TakingOne n (now zone) a b (asBound limit) ⌝ }
     ensures { λ r. ⌜ Taken n (now (zone .entry)) (limited a b (asBound limit)) r (now (zone .exit)) ⌝ }
 {
-    let Number::Secs(c) = limit else {
+    let Number::Upto(c) = limit else {
         return true;
     };
     if bound_at(zone, n, a, b).implies(c) {
         return true;
     }
     constrain(zone, n, a, b, c)
-}
-
-// The bound on x(i) - x(j) where all times are allowed.
-fn diagonal(i: usize, j: usize) -> Number
-    ensures { λ r. ⌜ (asBound r ≡ diagonal i j) × Small Limit (asBound r) ⌝ }
-{
-    if i == j {
-        Number::Secs(ZERO)
-    } else {
-        Number::Blank
-    }
 }
 
 // Row i of the zone of all times.
@@ -137,10 +122,7 @@ fn chosen(times: &[i32], n: usize, i: usize, s: usize) -> Seconds
     if i == 0 {
         return ZERO;
     }
-    match time_at(times, n, i, s) {
-        Number::Blank => ZERO,
-        Number::Secs(t) => t,
-    }
+    time_at(times, n, i, s).value
 }
 
 // In row i column s attains the largest sum, ties included.
@@ -151,7 +133,7 @@ fn attain(part: &mut [i32], times: &[i32], n: usize, i: usize, s: usize) -> bool
     let c = chosen(times, n, i, s);
     let mut j = 1;
     while j <= n {
-        let limit = time_at(times, n, i, j).slack(c);
+        let limit = Number::slack(c, time_at(times, n, i, j));
         if !take_in(part, n, j, s, limit) {
             return false;
         }
@@ -171,8 +153,11 @@ fn keep_one(part: &mut [i32], times: &[i32], zone: &[i32], n: usize, a: Choice, 
     if let Number::Blank = near {
         return true;
     }
-    let apart = chosen(times, n, b.row, b.column).minus(chosen(times, n, a.row, a.column));
-    take_in(part, n, a.column, b.column, near.plus(Number::Secs(apart)))
+    let apart = Number::difference(
+        chosen(times, n, b.row, b.column),
+        chosen(times, n, a.row, a.column),
+    );
+    take_in(part, n, a.column, b.column, near.plus(apart))
 }
 
 // Both ways.
@@ -269,63 +254,4 @@ pub fn common(zone: &mut [i32], pattern: &[i32], n: usize) -> bool
         i += 1;
     }
     true
-}
-
-// x(s), of times of departures 1 on: x(0) is the clock's zero.
-fn clocked(times: [Seconds; DEPARTURES], s: usize) -> Seconds
-    requires { ⌜ s ≤ mostDepartures ⌝ }
-    ensures { λ r. ⌜ r .0 ≡ clocked (values times) s ⌝ }
-{
-    if s == 0 {
-        return ZERO;
-    }
-    times[s - 1]
-}
-
-// The greatest time; if there is no greatest, the least; if neither, 0.
-fn greatest_or(early: Number, late: Number) -> Seconds
-    requires { ⌜ Small Widest (asBound early) ⌝ }
-    ensures { λ r. ⌜ r .0 ≡ greatestOr (asBound early) (asBound late) ⌝ }
-{
-    match late {
-        Number::Secs(c) => c,
-        Number::Blank => match early {
-            Number::Secs(b) => b.negated(),
-            Number::Blank => ZERO,
-        },
-    }
-}
-
-// The time of departure t, given those before it: how early it may be, negated, and how late.
-fn next_time(zone: &[i32], n: usize, times: [Seconds; DEPARTURES], t: usize) -> Seconds
-    requires { ⌜ NextReady n (now zone) (values times) t ⌝ }
-    ensures { λ r. ⌜ NextIs n (now (zone .entry)) (values times) t r ⌝ }
-{
-    let mut early = Number::Blank;
-    let mut late = Number::Blank;
-    let mut s = t;
-    while 0 < s {
-        s -= 1;
-        let x = clocked(times, s);
-        late = bound_at(zone, n, t, s).plus(Number::Secs(x)).tighter(late);
-        early = bound_at(zone, n, s, t)
-            .plus(Number::Secs(x.negated()))
-            .tighter(early);
-    }
-    greatest_or(early, late)
-}
-
-// The start picked in the zone: each departure in turn, given those before it.
-pub fn pick(zone: &[i32], n: usize) -> [Seconds; DEPARTURES]
-    requires { ⌜ ZoneIn n (now zone) ⌝ }
-    ensures { λ r. ⌜ r ≡ allTimes (pick n (boundsIn (now (zone .entry)))) ⌝ }
-{
-    let mut times = [ZERO; DEPARTURES];
-    let mut t = 1;
-    while t <= n {
-        let x = next_time(zone, n, times, t);
-        times[t - 1] = x;
-        t += 1;
-    }
-    times
 }

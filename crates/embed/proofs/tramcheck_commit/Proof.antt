@@ -23,7 +23,8 @@ slot-is c =
 -- what was judged is what the definition judges
 judged-is : (c : tie.After-commit) →
     let a = c .before .before .before .before .before .args in
-    c .commit .result .judged ≡ commit (caseIn (a .n) (a .horizon) (a .present .now) (a .values .now)) (a .row) (a .column) (slotOf (a .has) (a .time)) .judged
+    let case = caseIn (a .n) (a .horizon) (a .present .now) (a .strict .now) (a .values .now) in
+    c .commit .result .judged ≡ commit case (a .row) (a .column) (slotOf (a .has) (a .time)) .judged
 judged-is c =
     let s = c .before in
     rw (slot-is s, s .before .case-in .ensures) at (ap (λ (r : Committed). r .judged) (c .commit .ensures))
@@ -32,7 +33,7 @@ judged-is c =
 here : (c : tie.After-enum-told) →
     let a = c .before .before .before .before .before .before .before .args in
     (1 ≤ a .row) × (1 ≤ a .column) × (timePlace (a .n) (a .row) (a .column) < mostTimes)
-here c = in-table _ _ _ _ _ _ _ (sym (judged-is (c .before .before)) ∙ c .enum-told .given .1)
+here c = in-table _ _ _ _ _ _ _ _ (sym (judged-is (c .before .before)) ∙ c .enum-told .given .1)
 
 returns : tie.Need-returns
 returns c =
@@ -41,8 +42,8 @@ returns c =
     let told = rw (c .before .before .before .with-count .ensures, judged-is d) at (c .tell-written .ensures) in
     let is = sym (judged-is d) in
     ⊎-elim
-    (λ w. rw (w .7, w .8) (put-handed _ _ _ _ _ _ _ told (is ∙ w .1 .given .1) (rw (slot-is (d .before)) at (w .4 .ensures))))
-    (λ w. rw (w .2, w .3) (kept-handed _ _ _ _ _ _ _ told (is ∙ w .1 .given .1))) (m .match .came)
+    (λ w. rw (w .7, w .8) (put-handed _ _ _ _ _ _ _ _ told (is ∙ w .1 .given .1) (rw (slot-is (d .before)) at (w .4 .ensures))))
+    (λ w. rw (w .2, w .3) (kept-handed _ _ _ _ _ _ _ _ told (is ∙ w .1 .given .1))) (m .match .came)
 
 pub tramcheck-commit-spec : {M : Type 1} → statement M
 tramcheck-commit-spec =

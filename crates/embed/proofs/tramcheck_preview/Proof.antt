@@ -15,11 +15,11 @@ slot-is c =
 
 returns : tie.Need-returns
 returns c =
-    let v = c .before .before .before .before .before in
+    let v = c .before .before .before .before .before .before in
     let s = v .before .before in
     let k = s .before .case-in .ensures in
     let e = slot-is s in
-    (rw (v .preview .ensures .answer, k, e) at (c .tell .ensures), rw (k, e) at (v .preview .ensures .workspace))
+    (rw (v .preview .ensures .answer, k, e) at (c .tell-in-parts .ensures), rw (k, e) at (v .preview .ensures .workspace))
 
 pub tramcheck-preview-spec : {M : Type 1} → statement M
 tramcheck-preview-spec =

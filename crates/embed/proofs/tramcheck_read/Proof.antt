@@ -7,7 +7,7 @@ use Rattle.embed.proofs.tramcheck_read.Tie as tie
 returns : tie.Need-returns
 returns c =
     let w = c .before .before .before in
-    let e = w .before .before .before in
+    let e = w .before .before .before .before in
     let r = e .before .before .before .before .before .before in
     rw (← (r .read .ensures))
     (rw (w .with-count .ensures) at (c .tell-written .ensures), record { departures = refl; cycles = refl; entries = e .entries-of .ensures })

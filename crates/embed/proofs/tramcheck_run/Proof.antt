@@ -6,9 +6,9 @@ use Rattle.embed.proofs.tramcheck_run.Tie as tie
 returns : tie.Need-returns
 returns c =
     let v = c .before .before .before .before in
-    let r = v .before .before in
+    let r = v .before in
     let t = r .before in
-    rw (v .run-verdict .ensures, r .run .ensures, t .start-times .ensures, t .before .before .case-in .ensures) at (c .tell .ensures)
+    rw (v .run-answer .ensures, r .run .ensures, t .start-times .ensures, t .before .before .case-in .ensures) at (c .tell .ensures)
 
 pub tramcheck-run-spec : {M : Type 1} → statement M
 tramcheck-run-spec =

@@ -5,8 +5,8 @@ use Rattle.embed.proofs.tramcheck_verdict.Tie as tie
 
 returns : tie.Need-returns
 returns c =
-    let v = c .before .before .before .before .before .verdict-packed .ensures in
-    (rw (v .answer) at (c .tell .ensures), v .workspace)
+    let v = c .before .before .before .before .before .before .verdict-packed .ensures in
+    (rw (v .answer) at (c .tell-in-parts .ensures), v .workspace)
 
 pub tramcheck-verdict-spec : {M : Type 1} → statement M
 tramcheck-verdict-spec =

@@ -5,9 +5,9 @@ use Rattle.embed.proofs.tramcheck_verdict_unpacked.Tie as tie
 
 returns : tie.Need-returns
 returns c =
-    let v = c .before .before .before .before .before in
+    let v = c .before .before .before .before .before .before in
     let k = v .before .before .case-in .ensures in
-    (rw (v .verdict .ensures .answer, k) at (c .tell .ensures), rw k at (v .verdict .ensures .workspace))
+    (rw (v .verdict .ensures .answer, k) at (c .tell-in-parts .ensures), rw k at (v .verdict .ensures .workspace))
 
 pub tramcheck-verdict-unpacked-spec : {M : Type 1} → statement M
 tramcheck-verdict-unpacked-spec =

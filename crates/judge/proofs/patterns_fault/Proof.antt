@@ -1,18 +1,12 @@
 -- The start without a fault, then the target.
 use borrow.Author.Needs.{needs}
 use mathlib.Core.Path.{_∙_}
-use Prim.Native.Nat.{_+_, _*_, _≤_}
 use native.Mathlib.Numerals.{add-one}
 use native.Mathlib.Omega.{arith}
-use Rattle.model.specs.Sizes.{mostBounds}
 use Rattle.model.specs.Faults.{patternsFault}
-use Rattle.model.proofs.Places.{pattern-fits}
-use Rattle.judge.proofs.Laws.{first-refused, first-accepted}
+use Rattle.judge.proofs.Laws.{first-refused, first-accepted, pattern-size}
 use Rattle.judge.proofs.patterns_fault.Statement.{statement}
 use Rattle.judge.proofs.patterns_fault.Tie as tie
-
-size-fits : (c : tie.Start) → let n = c .args .case .n in n * (n + 1) ≤ mostBounds
-size-fits c = rw (add-one (c .args .case .n)) (pattern-fits (c .pre))
 
 returns : tie.Need-returns
 unfolding patternsFault
@@ -33,10 +27,10 @@ patterns-fault-spec =
     tie.close
     (tie.spec
     (λ c. search needs)
-    (λ c. omega (arith, size-fits c))
-    (λ c κs. omega (arith, size-fits (c .before .before)))
+    (λ c. omega (arith, pattern-size (c .pre)))
+    (λ c κs. omega (arith, pattern-size (c .before .before .pre)))
     (λ c. search needs)
     returns
     (λ c. search needs)
-    (λ c κs. omega (arith, size-fits (c .before .before .before .before .before)))
+    (λ c κs. omega (arith, pattern-size (c .before .before .before .before .before .pre)))
     returns-2)

@@ -13,10 +13,14 @@ use Rattle.model.specs.declared.Fault.the-variants as fault
 use Rattle.model.specs.declared.Judged.{Judged}
 use Rattle.model.specs.declared.Judged.the-variants as judgement
 use Rattle.model.specs.Sizes.{timeLimit, mostTimes}
-use Rattle.model.specs.Faults.{nothing, rowsFault}
+use Rattle.model.specs.Network.{isTime, regular}
+use Rattle.model.specs.Faults.{timeOf, nothing, over, rowsFault}
+use Rattle.model.proofs.Limits.{over-none}
+use Rattle.model.proofs.Stored.{has-time}
 use Rattle.model.proofs.Places.{row-fits}
 use Rattle.judge.specs.Judgement.{judgedBy}
-use Rattle.judge.proofs.Laws.{Passed, SomeTime, passed-none, passed-more, passed-fault, passed-all, times-more, times-all, rows-turn, rows-end}
+use Rattle.judge.proofs.Laws.{Passed, SomeOf, walk-none, passed-none, passed-more, passed-fault, passed-all}
+use Rattle.judge.proofs.Laws.{some-more, some-all, over-some, rows-turn, rows-end}
 use Rattle.judge.proofs.rows_fault.Statement.{statement}
 use Rattle.judge.proofs.rows_fault.Tie as tie
 
@@ -28,7 +32,9 @@ record AtRow (n : ℕ) (times : List Slot) (judged : Judged) (row : ℕ) : Type 
 abbrev Inv-loop : tie.InvT-loop
 Inv-loop n times judged₀ row first some₀ column₀ judged some column =
     let entries = take n (drop first times) in
-    (judged ≡ judged₀) × Passed timeLimit fault.Time first entries n (λ j. getD times (first + j) nothing) column × SomeTime entries column some
+    (judged ≡ judged₀)
+    × Passed (over timeLimit fault.Time) first entries n (λ j. getD times (first + j) nothing) column
+    × SomeOf isTime timeOf entries column some
 
 abbrev μ-loop : tie.MeasureT-loop
 μ-loop n times judged₀ row first some₀ column₀ judged some column = n - column
@@ -49,7 +55,11 @@ in-table : (c : tie.In-rows Inv-loop μ-loop Inv-rows μ-rows) → let n = c .be
 in-table c = row-fits (c .before .before .pre) (c .rows-test .taken)
 
 loop-holds : tie.Need-loop-holds Inv-loop μ-loop Inv-rows μ-rows
-loop-holds c = (refl, passed-none nothing (simp (length-take, length-drop) (omega (arith, in-table c))) (λ j h. rw (getD-take, getD-drop)), refl)
+loop-holds c = (
+  refl,
+  passed-none (walk-none nothing (simp (length-take, length-drop) (omega (arith, in-table c))) (λ j h. rw (getD-take, getD-drop))),
+  record { is = refl },
+)
 
 loop-again : tie.Need-loop-again Inv-loop μ-loop Inv-rows μ-rows
 loop-again c =
@@ -57,15 +67,17 @@ loop-again c =
     let u = b .before .before in
     let i = u .before .loop .inv in
     let t = u .loop-test .taken in
-    (i .0, passed-more (i .1) t (sym (b .beyond .ensures) ∙ c .before .if1 .left), times-more (i .1) t (u .before .loop .some) (i .2))
+    let in-limit = over-none timeLimit fault.Time _ _ .1 (sym (b .beyond .ensures) ∙ c .before .if1 .left) in
+    (i .0, passed-more (i .1) t in-limit, some-more (i .1 .walk) t (i .2) (has-time _))
 
 rows-again : tie.Need-rows-again Inv-loop μ-loop Inv-rows μ-rows
+unfolding regular
 rows-again c =
     let o = c .before in
     let l = o .before .loop in
     let v = o .before .before in
     let r = v .before .rows .inv in
-    let some-time = times-all (l .inv .1) (o .loop-test .left) (l .some) (l .inv .2) ∙ not-false (l .some) (c .if2 .left) in
+    let some-time = some-all (l .inv .1 .walk) (o .loop-test .left) (l .inv .2) ∙ not-false (l .some) (c .if2 .left) in
     record {
       within = omega arith;
       none-yet = l .inv .0 ∙ r .none-yet;
@@ -84,11 +96,11 @@ returns-2 c =
     let v = u .before .before in
     simp (
       v .before .rows .inv .rest ∙ rows-turn _ _ _ (v .rows-test .taken),
-      passed-fault (u .before .loop .inv .1) (u .loop-test .taken) (sym (b .beyond .ensures) ∙ c .if1 .taken),
+      passed-fault (u .before .loop .inv .1) (u .loop-test .taken) (over-some timeLimit fault.Time _ _ (sym (b .beyond .ensures) ∙ c .if1 .taken)),
     )
 
 returns-3 : tie.Need-returns-3 Inv-loop μ-loop Inv-rows μ-rows
-unfolding judgedBy
+unfolding judgedBy regular
 returns-3 c =
     let o = c .before in
     let l = o .before .loop in
@@ -96,7 +108,7 @@ returns-3 c =
     simp (
       v .before .rows .inv .rest ∙ rows-turn _ _ _ (v .rows-test .taken),
       passed-all (l .inv .1) (o .loop-test .left),
-      times-all (l .inv .1) (o .loop-test .left) (l .some) (l .inv .2) ∙ not-true (l .some) (c .if2 .taken),
+      some-all (l .inv .1 .walk) (o .loop-test .left) (l .inv .2) ∙ not-true (l .some) (c .if2 .taken),
     )
 
 pub rows-fault-spec : {M : Type 1} → statement M

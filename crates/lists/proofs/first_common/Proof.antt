@@ -11,17 +11,17 @@ use Rattle.memory.specs.Numbers.{boundsIn}
 use Rattle.memory.proofs.Places.{zone-fits}
 use Rattle.zones.specs.Conditions.{Left}
 use Rattle.lists.specs.Lists.{zoneAt, foundBy}
-use Rattle.lists.proofs.Fronts.{front-long, front-zone, front-room, front-is, source-long, loaded-is}
+use Rattle.lists.proofs.Fronts.{front-long, front-room, front-is, source-long, loaded-is}
 use Rattle.lists.proofs.Starting.{common-ready}
-use Rattle.lists.proofs.Looking.{Looking, looking-start, looking-done, zone-place, zone-joins, looking-on, looking-found}
+use Rattle.lists.proofs.Looking.{Looking, looking-start, looking-done, zone-place, zone-joins, looking-on, looking-found, found-ready}
 use Rattle.lists.proofs.first_common.Statement.{statement}
 use Rattle.lists.proofs.first_common.Tie as tie
 
 abbrev Inv-loop : tie.InvT-loop
-Inv-loop work base count pattern n size zone₀ k₀ zone k = Looking n base count work pattern k × (size ≤ length zone)
+Inv-loop work base count pattern n parts size zone₀ k₀ zone k = Looking n base count work pattern k × (size ≤ length zone)
 
 abbrev μ-loop : tie.MeasureT-loop
-μ-loop work base count pattern n size zone₀ k₀ zone k = count - k
+μ-loop work base count pattern n parts size zone₀ k₀ zone k = count - k
 
 departures : (c : tie.Start Inv-loop μ-loop) → Departures (c .args .n)
 departures c = c .pre .meets .limits .departures
@@ -110,14 +110,19 @@ room-left : (c : tie.After-common Inv-loop μ-loop) →
     size ≤ length (c .common .last .0 ++ drop size (s .store .last .0 ++ drop size (l .loop .zone)))
 room-left c = front-room _ _ (room (c .before .before .before)) (c .common .last .0) (c .common .kept .0)
 
-slice-aggregate-pick : tie.Need-slice-aggregate-pick Inv-loop μ-loop
-slice-aggregate-pick c = sym (front-long _ _ (room-left (c .before .before .before)))
+slice-aggregate-start : tie.Need-slice-aggregate-start Inv-loop μ-loop
+slice-aggregate-start c = sym (front-long _ _ (room-left (c .before .before .before)))
 
-pick-requires : tie.Need-pick-requires Inv-loop μ-loop
-pick-requires c κs =
-    let e = c .before .before .before in
-    let z = e .before .before .before .before .before .before .before .before in
-    front-zone _ _ (room-left e) (departures (z .before)) (z .zone-size .ensures)
+start-requires : tie.Need-start-requires Inv-loop μ-loop
+start-requires c κs =
+    let t = c .before in
+    let e = t .before .before in
+    let s = e .before .before .before in
+    let i = s .before .before .before in
+    let z = i .before .before in
+    let long = e .common .kept .0 ∙ front-long _ _ (room s) ∙ z .zone-size .ensures in
+    rw (front-is _ _ (room s) (e .common .last .0) (e .common .kept .0))
+    (found-ready (i .loop-test .taken) (i .before .loop .inv .0) (loaded s) (left e) (z .before .pre) long (t .if1 .taken))
 
 returns : tie.Need-returns Inv-loop μ-loop
 unfolding foundBy
@@ -128,7 +133,7 @@ returns c =
     let i = s .before .before .before in
     rw (
       looking-found (i .loop-test .taken) (i .before .loop .inv .0) (loaded s) (left e) (t .if1 .taken),
-      c .pick .ensures,
+      c .start .ensures,
       front-is _ _ (room s) (e .common .last .0) (e .common .kept .0),
     )
 
@@ -165,8 +170,8 @@ first-common-spec =
     slice-aggregate-common
     common-requires
     (λ c. room-left (c .before .before))
-    slice-aggregate-pick
-    pick-requires
+    slice-aggregate-start
+    start-requires
     returns
     (λ c. omega arith)
     (λ c. omega arith)

@@ -20,11 +20,12 @@ use mir.ValLaws.{toZ-ofZ}
 use Rattle.ints.proofs.Integers.{impossible}
 use Rattle.model.specs.Lists.{tabulate, anyOf}
 use Rattle.model.specs.Bound as B
-use Rattle.model.specs.Bound.{most, sameZ}
+use Rattle.model.specs.Bound.{sameZ}
 use Rattle.model.specs.Matrix.{Matrix, sameMatrix}
 use Rattle.model.proofs.Tabulated.{tabulate-ext, tabulate-snoc}
 use Rattle.model.proofs.Same.{sameZ-true, sameZ-refl, sameMatrix-true, sameMatrix-refl}
-use Rattle.memory.specs.Numbers.{noneIn, boundIn, boundsIn}
+use Rattle.memory.specs.Numbers.{noneIn, ofHalves, boundIn, boundsIn}
+use Rattle.memory.proofs.InHalves.{same-number, not-none}
 use Rattle.memory.proofs.Places.{getD-bounds}
 use Rattle.lists.specs.Lists.{numbersAt, zoneAt, listIn}
 use Rattle.lists.specs.Inner.{Elsewhere}
@@ -46,11 +47,12 @@ boundIn-injective : (a b : ℤ) → boundIn a ≡ boundIn b → a ≡ b
 unfolding boundIn
 boundIn-injective a b e = go (sameZ a (pos noneIn)) (sameZ b (pos noneIn)) refl refl e
   where
-    go : (s t : Bool) → sameZ a (pos noneIn) ≡ s → sameZ b (pos noneIn) ≡ t → cond s B.Bound.none (most a) ≡ cond t B.Bound.none (most b) → a ≡ b
+    go : (s t : Bool) → sameZ a (pos noneIn) ≡ s → sameZ b (pos noneIn) ≡ t → cond s B.Bound.none (ofHalves a) ≡ cond t B.Bound.none (ofHalves b)
+        → a ≡ b
     go true true p q e = sameZ-true a _ p ∙ sym (sameZ-true b _ q)
-    go true false p q e = cc
-    go false true p q e = cc
-    go false false p q e = cc
+    go true false p q e = absurd (not-none b (sym e))
+    go false true p q e = absurd (not-none a e)
+    go false false p q e = same-number a b e
 
 pub length-numbers : (size : ℕ) (list : List ℤ) (k : ℕ) → k * size + size ≤ length list → length (numbersAt size list k) ≡ size
 length-numbers size list k inside = rw (length-take size (drop (k * size) list), length-drop (k * size) list) (omega arith)

@@ -10,32 +10,20 @@ use Rattle.memory.proofs.Places.{bound-there}
 use Rattle.memory.proofs.bound_at.Statement.{statement}
 use Rattle.memory.proofs.bound_at.Tie as tie
 
-add-place : tie.Need-add-place
-add-place c = search needs
-
-place-requires : tie.Need-place-requires
-place-requires c κs = search needs
-
 here : (c : tie.After-place) → let s = c .before in PlaceOf (suc (s .args .n)) (s .args .i) (s .args .j) (c .place .result)
 here c = rw add-one at (c .place .ensures)
 
 below : (c : tie.After-place) → c .place .result < length (c .before .args .zone .now)
 below c = omega (arith, here c .below (suc (c .before .args .n)) (c .before .pre .row))
 
-mul-raw : tie.Need-mul-raw
-mul-raw c = search needs
-
 shared-slice-copy-out-raw : tie.Need-shared-slice-copy-out-raw
 shared-slice-copy-out-raw c = below c
-
-bound-requires : tie.Need-bound-requires
-bound-requires c κs = search needs
 
 returns : tie.Need-returns
 unfolding entry
 returns c =
     let p = c .before .before in
-    rw (← here p .is) (bound-there _ (p .place .result) (below p) (record { sfits = c .before .raw .given }) (c .bound .ensures))
+    rw (← here p .is) (bound-there _ (p .place .result) (below p) (record { sfits = c .before .raw .given }) (c .read .ensures))
 
 pub bound-at-spec : {M : Type 1} → statement M
-bound-at-spec = tie.close (tie.spec add-place place-requires mul-raw shared-slice-copy-out-raw bound-requires returns)
+bound-at-spec = tie.close (tie.spec (λ c. search needs) (λ c κs. search needs) (λ c. search needs) shared-slice-copy-out-raw (λ c κs. search needs) returns)

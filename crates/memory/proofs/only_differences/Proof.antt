@@ -3,15 +3,17 @@ use borrow.Author.Needs.{needs}
 use Prim.Native.Nat.{ℕ, suc, _+_, _-_, _≤_}
 use native.Mathlib.Omega.{arith}
 use mathlib.Core.Path.{_≡_, sym, ap, _∙_}
-use mathlib.Core.Bool.{Bool, _&&_}
+use mathlib.Core.Bool.{Bool, false, _&&_}
 use mathlib.Core.List.{List}
+use lib.IntN.{ℤ}
 use Rattle.model.specs.Lists.{allOf}
 use Rattle.model.specs.Bound.{Bound}
 use Rattle.model.specs.Pattern.{pairBound, isNone, onlyDifferences}
 use Rattle.model.proofs.Tabulated.{from, from-first, from-next, from-end}
 use Rattle.memory.specs.declared.Number.{Number}
-use Rattle.memory.specs.Numbers.{asBound, boundsIn}
+use Rattle.memory.specs.Numbers.{ofHalves, asBound, boundsIn}
 use Rattle.memory.specs.Conditions.{BoundRead}
+use Rattle.memory.proofs.InHalves.{halved}
 use Rattle.memory.proofs.only_differences.Statement.{statement}
 use Rattle.memory.proofs.only_differences.Tie as tie
 
@@ -42,6 +44,10 @@ enum-told c = search needs
 read : {b : Bound} {r e : Number} → BoundRead b r → r ≡ e → isNone b ≡ isNone (asBound e)
 read q e = ap isNone (sym (q .is) ∙ ap asBound e)
 
+bounded : (z : ℤ) → isNone (ofHalves z) ≡ false
+unfolding isNone
+bounded z = rw (halved z .is)
+
 -- the two numbers of departure j, and the departures behind
 step : (c : tie.After-pair-bound2 Inv-loop μ-loop) →
     let l = c .before .before .before in
@@ -55,7 +61,7 @@ returns : tie.Need-returns Inv-loop μ-loop
 unfolding isNone
 returns c =
     let t = c .before .before in
-    sym (rw (read (t .before .pair-bound .ensures) (c .enum-told .given .1)) at (step t))
+    sym (rw (read (t .before .pair-bound .ensures) (c .enum-told .given .1), bounded (c .enum-told .given .0 .0 .0)) at (step t))
 
 enum-told-2 : tie.Need-enum-told-2 Inv-loop μ-loop
 enum-told-2 c = search needs
@@ -68,7 +74,9 @@ unfolding isNone
 returns-2 c =
     let f = c .before .before in
     let t = f .before .before in
-    sym (rw (read (t .before .pair-bound .ensures) (f .enum-told2 .given .1), read (t .pair-bound2 .ensures) (c .enum-told3 .given .1)) at (step t))
+    let from = read (t .before .pair-bound .ensures) (f .enum-told2 .given .1) in
+    let to = read (t .pair-bound2 .ensures) (c .enum-told3 .given .1) in
+    sym (rw (from, to, bounded (c .enum-told3 .given .0 .0 .0)) at (step t))
 
 enum-told-4 : tie.Need-enum-told-4 Inv-loop μ-loop
 enum-told-4 c = search needs

@@ -44,8 +44,8 @@ below c = let s = c .before .before .before in omega (arith, c .place .ensures .
 shared-slice-copy-out-raw : tie.Need-shared-slice-copy-out-raw
 shared-slice-copy-out-raw c = below c
 
-bound-requires : tie.Need-bound-requires
-bound-requires c κs = search needs
+read-requires : tie.Need-read-requires
+read-requires c κs = search needs
 
 returns-2 : tie.Need-returns-2
 unfolding pairBound pairPlace
@@ -53,7 +53,7 @@ returns-2 c =
     let p = c .before .before in
     let q = p .before in
     rw (ne-eqb _ _ (q .before .if1 .left), ← column q .0, ← p .place .ensures .is)
-    (bound-there _ (p .place .result) (below p) (record { sfits = c .before .raw .given }) (c .bound .ensures))
+    (bound-there _ (p .place .result) (below p) (record { sfits = c .before .raw .given }) (c .read .ensures))
 
 pub pair-bound-spec : {M : Type 1} → statement M
 pair-bound-spec =
@@ -64,5 +64,5 @@ pair-bound-spec =
     place-requires
     mul-raw
     shared-slice-copy-out-raw
-    bound-requires
+    read-requires
     returns-2)

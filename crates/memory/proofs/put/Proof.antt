@@ -8,32 +8,17 @@ use Rattle.memory.proofs.Places.{bound-put}
 use Rattle.memory.proofs.put.Statement.{statement}
 use Rattle.memory.proofs.put.Tie as tie
 
-add-place : tie.Need-add-place
-add-place c = search needs
-
-place-requires : tie.Need-place-requires
-place-requires c κs = search needs
-
 here : (c : tie.After-place) → let s = c .before in PlaceOf (suc (s .args .n)) (s .args .i) (s .args .j) (c .place .result)
 here c = rw add-one at (c .place .ensures)
-
-raw-requires : tie.Need-raw-requires
-raw-requires c κs = search needs
-
-mul-t7 : tie.Need-mul-t7
-mul-t7 c = search needs
 
 slice-set-from-zone : tie.Need-slice-set-from-zone
 slice-set-from-zone c = let s = c .before .before in omega (arith, here (c .before) .below (suc (s .args .n)) (s .pre .0 .row))
 
-same-length : tie.Need-same-length
-same-length c = search needs
-
 returns : tie.Need-returns
 returns c =
     let p = c .before in
-    rw (← here p .is) (bound-put _ (p .place .result) (c .raw .result) _ (record { sfits = c .raw .ok }) (c .raw .ensures .0))
+    rw (← here p .is) (bound-put _ (p .place .result) (c .raw .result) _ (record { sfits = c .raw .ok }) (c .raw .ensures))
 
 pub put-spec : {M : Type 1} → statement M
 put-spec =
-    tie.close (tie.spec add-place place-requires raw-requires mul-t7 slice-set-from-zone same-length returns)
+    tie.close (tie.spec (λ c. search needs) (λ c κs. search needs) (λ c κs. search needs) (λ c. search needs) slice-set-from-zone (λ c. search needs) returns)

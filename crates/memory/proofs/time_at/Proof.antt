@@ -26,14 +26,14 @@ below c = omega (arith, c .place .ensures .below (c .before .args .n) (omega ari
 shared-slice-copy-out-raw : tie.Need-shared-slice-copy-out-raw
 shared-slice-copy-out-raw c = below c
 
-time-requires : tie.Need-time-requires
-time-requires c κs = search needs
+time-of-requires : tie.Need-time-of-requires
+time-of-requires c κs = search needs
 
 returns : tie.Need-returns
 unfolding time
 returns c =
     let p = c .before .before in
-    rw (← p .place .ensures .is) (time-there _ (p .place .result) (below p) (record { sfits = c .before .raw .given }) (c .time .ensures))
+    rw (← p .place .ensures .is) (time-there _ (p .place .result) (below p) (record { sfits = c .before .raw .given }) (c .time-of .ensures))
 
 pub time-at-spec : {M : Type 1} → statement M
 time-at-spec =
@@ -44,5 +44,5 @@ time-at-spec =
     place-requires
     mul-raw
     shared-slice-copy-out-raw
-    time-requires
+    time-of-requires
     returns)

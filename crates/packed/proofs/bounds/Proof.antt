@@ -1,30 +1,33 @@
 -- The entries read so far, and the array that holds them.
 use borrow.Author.Needs.{needs}
-use mathlib.Core.Path.{_≡_, refl, _∙_}
-use mathlib.Core.List.{List, []}
+use mathlib.Core.Path.{_≡_, refl, ap}
+use mathlib.Core.List.{List, [], _∷_, map, map-append}
+use lib.ListN.{length-map}
 use Prim.Native.Nat.{ℕ, _+_, _-_, _*_, _<_}
 use native.Mathlib.Numerals.{add-one}
 use native.Mathlib.Omega.{arith}
 use Rattle.model.specs.Sizes.{mostBounds}
 use Rattle.model.specs.declared.Slot.{Slot}
-use Rattle.model.specs.Packed.{bounds}
+use Rattle.model.specs.Faults.{nothing, unmarked}
+use Rattle.model.specs.Packed.{Reading, got, andThen, bounds}
 use Rattle.model.proofs.Places.{pattern-fits}
 use Rattle.packed.specs.Readings.{From, mostPatternBits, boundEntry}
-use Rattle.packed.proofs.Laws.{answered, entriesOf, Entries, entries-none, entries-more, entries-fault, entries-done}
+use Rattle.packed.proofs.Laws.{answered, entriesOf, Entries, entries-none, entries-more, entries-fault, entries-done, Held, held-none, held-more}
 use Rattle.packed.proofs.bounds.Statement.{statement}
 use Rattle.packed.proofs.bounds.Tie as tie
 
 abbrev Inv-loop : tie.InvT-loop
-Inv-loop s n slots₀ cursor₀ count i₀ slots cursor i =
-    (read : List Slot) × Entries boundEntry s count 0 (cursor₀ .at) slots₀ i slots (cursor .at) read
+Inv-loop s n limits₀ cursor₀ count i₀ limits cursor i =
+    (read : List Slot) × Entries boundEntry s count (cursor₀ .at) i (cursor .at) read × Held (unmarked nothing) 0 limits₀ limits (map unmarked read)
 
 abbrev μ-loop : tie.MeasureT-loop
-μ-loop s n slots₀ cursor₀ count i₀ slots cursor i = count - i
+μ-loop s n limits₀ cursor₀ count i₀ limits cursor i = count - i
 
--- the code's count of the bounds
-bounds-are : (s : List ℕ) (n p : ℕ) → bounds s n p ≡ entriesOf boundEntry s (n * (n + 1)) p []
+-- the code's count of the bounds, and what is read of them
+bounds-are : (s : List ℕ) (n p : ℕ) {x : Reading (List Slot)} → entriesOf boundEntry s (n * (n + 1)) p [] ≡ x
+    → bounds s n p ≡ andThen x (λ es q. got (map unmarked es) q)
 unfolding bounds
-bounds-are s n p = rw add-one
+bounds-are s n p e = ap (λ (y : Reading (List Slot)). andThen y (λ es q. got (map unmarked es) q)) (rw (add-one n) at e)
 
 enum-told : tie.Need-enum-told Inv-loop μ-loop
 enum-told c = search needs
@@ -46,7 +49,7 @@ starts : (c : tie.After-known-told Inv-loop μ-loop) → From (c .before .before
 starts c = rw (c .before .from .given .1) at (c .before .before .before .before .pre .0)
 
 loop-holds : tie.Need-loop-holds Inv-loop μ-loop
-loop-holds c = ([], entries-none (starts c .within))
+loop-holds c = ([], entries-none (starts c .within), held-none (unmarked nothing))
 
 index : (c : tie.In-loop Inv-loop μ-loop) → c .before .loop .i < mostBounds
 index c = let s = c .before .before .before .before .before .before in omega (arith, pattern-fits (s .pre .1))
@@ -63,42 +66,53 @@ returns-2 c =
     let l = d .before .before in
     rw (l .before .before .from .given .1)
     (record {
-      read = l .loop .inv .0;
-      is = bounds-are _ _ _ ∙ entries-fault (l .loop .inv .1) (d .before .loop-test .taken) (answered (d .entry .ensures) (c .before .f .given .1));
-      stored = l .loop .inv .1 .stored [] refl refl;
+      read = map unmarked (l .loop .inv .0);
+      is = bounds-are _ _ _ (entries-fault (l .loop .inv .1) (d .before .loop-test .taken) (answered (d .entry .ensures) (c .before .f .given .1)));
+      stored = l .loop .inv .2 .stored [] refl refl;
       place = omega arith;
     })
 
 enum-known-slot : tie.Need-enum-known-slot Inv-loop μ-loop
 enum-known-slot c = search needs
 
-mul-slots : tie.Need-mul-slots Inv-loop μ-loop
-mul-slots c = omega (arith, index (c .before .before .before .before))
+-- a bound is stored
+stores : (c : tie.After-unmarked Inv-loop μ-loop) → c .before .before .before .before .before .before .loop .i < mostBounds
+stores c = index (c .before .before .before .before .before)
 
-array-set-from-slots : tie.Need-array-set-from-slots Inv-loop μ-loop
-array-set-from-slots c = omega (arith, index (c .before .before .before .before))
+mul-limits : tie.Need-mul-limits Inv-loop μ-loop
+mul-limits c = omega (arith, stores c)
+
+array-set-from-limits : tie.Need-array-set-from-limits Inv-loop μ-loop
+array-set-from-limits c = omega (arith, stores c)
 
 add-i : tie.Need-add-i Inv-loop μ-loop
-add-i c = omega (arith, index (c .before .before .before .before))
+add-i c = omega (arith, stores c)
 
 loop-less : tie.Need-loop-less Inv-loop μ-loop
 loop-less c = search needs
 
 loop-again : tie.Need-loop-again Inv-loop μ-loop
 loop-again c =
-    let d = c .before .before .before in
+    let e = c .before .before in
+    let d = e .before .before in
     let u = d .before in
     let l = u .before .loop in
-    (_, entries-more (l .inv .1) (u .loop-test .taken) (l .i) (omega arith) (index u) _ _ (answered (d .entry .ensures) (c .before .slot .given .1)))
+    let slot = e .slot .given .0 .0 in
+    let kept = l .inv .0 in (
+      _,
+      entries-more (l .inv .1) (u .loop-test .taken) slot _ (answered (d .entry .ensures) (e .slot .given .1)),
+      rw (c .unmarked .ensures, map-append unmarked kept (slot ∷ []))
+          (held-more (l .inv .2) (l .i) (omega (arith, length-map kept unmarked)) (stores c) (unmarked slot)),
+    )
 
 returns-3 : tie.Need-returns-3 Inv-loop μ-loop
 returns-3 c =
     let l = c .before in
     rw (l .before .before .from .given .1)
     (record {
-      read = l .loop .inv .0;
-      is = bounds-are _ _ _ ∙ entries-done (l .loop .inv .1) (c .loop-test .left);
-      stored = l .loop .inv .1 .stored [] refl refl;
+      read = map unmarked (l .loop .inv .0);
+      is = bounds-are _ _ _ (entries-done (l .loop .inv .1) (c .loop-test .left));
+      stored = l .loop .inv .2 .stored [] refl refl;
       place = omega (arith, pattern-fits (l .before .before .before .before .before .pre .1));
     })
 
@@ -118,8 +132,9 @@ bounds-spec =
     enum-known-f
     returns-2
     enum-known-slot
-    mul-slots
-    array-set-from-slots
+    (λ c κs. search needs)
+    mul-limits
+    array-set-from-limits
     add-i
     loop-less
     loop-again

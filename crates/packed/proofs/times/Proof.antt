@@ -19,7 +19,7 @@ use Rattle.packed.specs.declared.Cursor.{Cursor}
 use Rattle.packed.specs.declared.Next.{Next}
 use Rattle.packed.specs.declared.Next.the-variants as nexts
 use Rattle.packed.specs.Readings.{InCase, timeEntry}
-use Rattle.packed.proofs.Laws.{answered, entriesOf, Entries, entries-none, entries-more, entries-fault, entries-done}
+use Rattle.packed.proofs.Laws.{answered, entriesOf, Entries, entries-none, entries-more, entries-fault, entries-done, Held, held-none, held-more}
 use Rattle.packed.proofs.Laws.{rows-turn, rows-end, regular-more, next-row}
 use Rattle.packed.proofs.times.Statement.{statement}
 use Rattle.packed.proofs.times.Tie as tie
@@ -37,7 +37,8 @@ record AtRow (s : List ℕ) (n first : ℕ) (slots : List Slot) (cursor : Cursor
 abbrev Inv-loop : tie.InvT-loop
 Inv-loop s n slots₀ cursor₀ k₀ row first some₀ column₀ slots cursor k some column =
     (read : List Slot)
-    × Entries timeEntry s n k₀ (cursor₀ .at) slots₀ column slots (cursor .at) read
+    × Entries timeEntry s n (cursor₀ .at) column (cursor .at) read
+    × Held nothing k₀ slots₀ slots read
     × (k ≡ k₀ + column)
     × (some ≡ regular (map timeOf read))
 
@@ -67,7 +68,7 @@ rows-holds c =
 
 loop-holds : tie.Need-loop-holds Inv-loop μ-loop Inv-rows μ-rows
 unfolding regular anyOf
-loop-holds c = ([], entries-none (c .before .rows .inv .place .within), omega arith, refl)
+loop-holds c = ([], entries-none (c .before .rows .inv .place .within), held-none nothing, omega arith, refl)
 
 -- the entry is one of the table's
 index : (c : tie.In-loop Inv-loop μ-loop Inv-rows μ-rows) → c .before .loop .k < mostTimes
@@ -107,9 +108,10 @@ loop-again c =
     let l = u .before .loop in
     let slot = e .slot .given .0 .0 in (
       _,
-      entries-more (l .inv .1) (u .loop-test .taken) (l .k) (l .inv .2) (omega (arith, index u)) slot _ (answered (d .entry .ensures) (e .slot .given .1)),
+      entries-more (l .inv .1) (u .loop-test .taken) slot _ (answered (d .entry .ensures) (e .slot .given .1)),
+      held-more (l .inv .2) (l .k) (omega arith) (omega (arith, index u)) slot,
       omega arith,
-      ap (λ (b : Bool). b || slot .has) (l .inv .3) ∙ sym (regular-more (l .inv .0) slot),
+      ap (λ (b : Bool). b || slot .has) (l .inv .4) ∙ sym (regular-more (l .inv .0) slot),
     )
 
 add-row : tie.Need-add-row Inv-loop μ-loop Inv-rows μ-rows
@@ -129,7 +131,6 @@ rows-again : tie.Need-rows-again Inv-loop μ-loop Inv-rows μ-rows
 rows-again c =
     let o = c .before in
     let l = o .before .loop in
-    let j = l .inv .1 in
     let u = o .before .before in
     let r = u .before .rows in
     let i = r .inv in
@@ -141,8 +142,8 @@ rows-again c =
       within = omega arith;
       place = omega arith;
       ends = refl;
-      stored = j .stored (i .read) (i .long) (i .stored);
-      rest = i .rest ∙ rows-turn _ _ _ _ _ (u .rows-test .taken) ∙ simp (row-read o, sym (l .inv .3) ∙ not-false (l .some) (c .if1 .left));
+      stored = l .inv .2 .stored (i .read) (i .long) (i .stored);
+      rest = i .rest ∙ rows-turn _ _ _ _ _ (u .rows-test .taken) ∙ simp (row-read o, sym (l .inv .4) ∙ not-false (l .some) (c .if1 .left));
     }
 
 returns : tie.Need-returns Inv-loop μ-loop Inv-rows μ-rows
@@ -170,7 +171,7 @@ returns-2 c =
       read = i .read ++ l .inv .0;
       is = i .rest ∙ rows-turn _ _ _ _ _ (v .rows-test .taken)
           ∙ simp (entries-fault (l .inv .1) (u .loop-test .taken) (answered (d .entry .ensures) (c .before .f .given .1)));
-      stored = l .inv .1 .stored (i .read) (i .long) (i .stored);
+      stored = l .inv .2 .stored (i .read) (i .long) (i .stored);
       place = omega arith;
     }
 
@@ -182,8 +183,8 @@ returns-3 c =
     let i = v .before .rows .inv in
     record {
       read = i .read ++ l .inv .0;
-      is = i .rest ∙ rows-turn _ _ _ _ _ (v .rows-test .taken) ∙ simp (row-read o, sym (l .inv .3) ∙ not-true (l .some) (c .if1 .taken));
-      stored = l .inv .1 .stored (i .read) (i .long) (i .stored);
+      is = i .rest ∙ rows-turn _ _ _ _ _ (v .rows-test .taken) ∙ simp (row-read o, sym (l .inv .4) ∙ not-true (l .some) (c .if1 .taken));
+      stored = l .inv .2 .stored (i .read) (i .long) (i .stored);
       place = omega arith;
     }
 

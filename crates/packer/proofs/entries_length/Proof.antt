@@ -50,7 +50,7 @@ loop-again c =
 returns : tie.Need-returns Inv-loop μ-loop
 returns c =
     let e : c .before .loop .i ≡ c .before .before .args .count = omega arith in
-    (rw e at (c .before .loop .inv .1), omega arith, omega arith)
+    (rw e at (c .before .loop .inv .1), omega arith)
 
 pub entries-length-spec : {M : Type 1} → statement M
 entries-length-spec =

@@ -1,87 +1,77 @@
 -- Part behind part, from a pen that holds nothing.
 use borrow.Author.Needs.{needs}
-use Prim.Native.Nat.{_+_}
+use Prim.Native.Nat.{ℕ, _+_}
 use native.Mathlib.Numerals.{add-one}
 use native.Mathlib.Omega.{arith}
-use mathlib.Core.List.{[]}
+use mathlib.Core.Path.{_≡_}
+use mathlib.Core.List.{List, []}
 use lib.ListN.{length, length-append}
-use Rattle.model.specs.Writing.{caseBits, packedBytes}
+use Rattle.model.specs.Sizes.{patternSize}
 use Rattle.model.proofs.Spelled.{length-field}
-use Rattle.packer.specs.Ink.{CanInk, Inks}
+use Rattle.packer.specs.Ink.{CanInk, Inks, headBits, tableBits, patternsBits, formBits}
 use Rattle.packer.proofs.Inking.{first-pen, inked-first, can-first, inks-then}
-use Rattle.packer.proofs.Sound.{tableBits, boundsBits, Sound, sound, case-bits, case-length}
+use Rattle.packer.proofs.Sound.{form-length}
 use Rattle.packer.proofs.put_case.Statement.{statement}
 use Rattle.packer.proofs.put_case.Tie as tie
 
--- the case's limits, and the room for its bits
-keeps : (c : tie.Start) → Sound (c .args .case)
-keeps c = sound (c .args .case) (c .pre .0)
+-- the bits of the case, and of its bounds
+abbrev bits : tie.Start → List ℕ
+bits c = let a = c .args in formBits (a .n) (a .horizon .0) (a .times) (a .start) (a .target)
 
-room : (c : tie.Start) → CanInk (length (caseBits (c .args .case))) first-pen (c .args .out .now)
-unfolding packedBytes
-room c = can-first (caseBits (c .args .case)) (c .args .out .now) (c .pre .1)
+abbrev boundsBits : tie.Start → List ℕ
+boundsBits c = let a = c .args in patternsBits (patternSize (a .n)) (a .start) (a .target)
+
+-- how many they are, and the room for them
+long : (c : tie.Start) → let a = c .args in
+    length (bits c) ≡ length (headBits (a .n) (a .horizon .0)) + length (tableBits (a .n) (a .times)) + length (boundsBits c)
+long c = let a = c .args in form-length (a .n) (a .horizon .0) (a .times) (a .start) (a .target)
+
+room : (c : tie.Start) → CanInk (length (bits c)) first-pen (c .args .out .now)
+room c = can-first (bits c) (c .args .out .now) (c .pre .1)
 
 after-head : (c : tie.After-head) →
-    let a = c .before .before .before .before .before .before .before .args .case in
-    CanInk (length (tableBits a) + length (boundsBits a)) (c .head .result) (c .head .last .1 .0)
-after-head c =
-    let s = c .before .before .before .before .before .before .before in
-    omega (arith, case-length (s .args .case), room s)
+    let s = c .before .before .before in
+    CanInk (length (tableBits (s .args .n) (s .args .times)) + length (boundsBits s)) (c .head .result) (c .head .last .1 .0)
+after-head c = let s = c .before .before .before in omega (arith, long s, room s)
 
 after-entries : (c : tie.After-entries) →
-    let h = c .before .before .before .before in
-    CanInk (length (boundsBits (h .before .before .before .before .before .before .before .args .case))) (c .entries .result) (c .entries .last .1 .0)
+    CanInk (length (boundsBits (c .before .before .before .before .before .before .before))) (c .entries .result) (c .entries .last .1 .0)
 after-entries c = omega (arith, after-head (c .before .before .before .before))
 
 -- all parts written
 written : (c : tie.After-patterns) →
-    let h = c .before .before .before .before .before .before .before .before in
-    let a = h .before .before .before .before .before .before .before .args in
-    Inks (caseBits (a .case)) first-pen (a .out .now) (c .patterns .result) (c .patterns .last .1 .0)
+    let s = c .before .before .before .before .before .before .before .before .before .before .before in
+    Inks (bits s) first-pen (s .args .out .now) (c .patterns .result) (c .patterns .last .1 .0)
+unfolding formBits
 written c =
     let e = c .before .before .before .before in
     let h = e .before .before .before .before in
-    let a = h .before .before .before .before .before .before .before .args in
-    rw (case-bits (a .case), ← (add-one (a .case .n))) (inks-then (inks-then (h .head .ensures) (e .entries .ensures)) (c .patterns .ensures))
-
-add-size : tie.Need-add-size
-add-size c = omega (arith, keeps (c .before .before))
-
-mul-size : tie.Need-mul-size
-mul-size c = omega (arith, keeps (c .before .before))
+    rw (← (add-one (h .before .before .before .args .n))) (inks-then (inks-then (h .head .ensures) (e .entries .ensures)) (c .patterns .ensures))
 
 head-requires : tie.Need-head-requires
 head-requires c κs =
-    let s = c .before .before .before .before .before .before in
-    let long = simp (length-append, length-field) at (case-length (s .args .case)) in
-    omega (arith, long, room s, keeps s)
-
-mul-entries : tie.Need-mul-entries
-mul-entries c = omega (arith, keeps (c .before .before .before .before .before .before .before .before .before .before))
+    let s = c .before .before in
+    omega (arith, simp (length-append, length-field) at (long s), room s)
 
 entries-requires : tie.Need-entries-requires
 entries-requires c κs =
     let h = c .before .before .before in
-    (omega (arith, after-head h), omega arith, keeps (h .before .before .before .before .before .before .before) .times)
+    (omega (arith, after-head h), omega arith, h .before .before .before .pre .0 .times-in)
 
 patterns-requires : tie.Need-patterns-requires
 patterns-requires c κs =
     let e = c .before .before .before in
-    let h = e .before .before .before .before in
-    let s = h .before .before .before .before .before .before .before in
-    rw (add-one (s .args .case .n)) (after-entries e, keeps s .start, keeps s .target)
+    let s = e .before .before .before .before .before .before .before in
+    rw (add-one (s .args .n)) (after-entries e, s .pre .0 .start-in, s .pre .0 .target-in)
 
 fill-requires : tie.Need-fill-requires
 fill-requires c κs =
     let p = c .before .before .before in
-    let n = p .before .before .before .before .before .before .before .before .before .before .before .before .before .before .before .args .case .n in
-    omega (arith, after-entries (p .before .before .before .before), rw (add-one n) at (p .patterns .ensures))
-
-same-length : tie.Need-same-length
-same-length c = search needs
+    let e = p .before .before .before .before in
+    let n = e .before .before .before .before .before .before .before .args .n in
+    omega (arith, after-entries e, rw (add-one n) at (p .patterns .ensures))
 
 returns : tie.Need-returns
-unfolding packedBytes
 returns c =
     let f = c .before .before in
     let p = f .before .before .before .before in
@@ -91,12 +81,12 @@ pub put-case-spec : {M : Type 1} → statement M
 put-case-spec =
     tie.close
     (tie.spec
-    add-size
-    mul-size
+    (λ c. search needs)
+    (λ c. search needs)
     head-requires
-    mul-entries
+    (λ c. search needs)
     entries-requires
     patterns-requires
     fill-requires
-    same-length
+    (λ c. search needs)
     returns)

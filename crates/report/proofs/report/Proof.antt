@@ -11,6 +11,7 @@ use Rattle.puts.proofs.Writing.{puts-then}
 use Rattle.report.specs.Lengths.{mostLines}
 use Rattle.report.specs.Text.{answerText, programZones, programSpace, text}
 use Rattle.report.proofs.Few.{few}
+use Rattle.report.proofs.Shown.{lines-parts}
 use Rattle.report.proofs.report.Statement.{statement}
 use Rattle.report.proofs.report.Tie as tie
 
@@ -54,9 +55,10 @@ returns c =
     let r = h .before .before .before .before in
     let a = r .before .before in
     let start = a .before .before .before in
+    let s = start .args .bytes .now in
     let put = puts-then (puts-then (h .put-heading .ensures .puts) (b .byte .ensures)) (c .put-lines .ensures .puts) in
-    let all : Puts (start .args .out .now) 0 (text (start .args .bytes .now)) (c .put-lines .result) (c .put-lines .last .0)
-    = rw (l .line-count .ensures, answer-is a, r .read .ensures) at put in
+    let all : Puts (start .args .out .now) 0 (text s) (c .put-lines .result) (c .put-lines .last .0)
+    = rw (← (lines-parts s programZones programSpace)) at (rw (l .line-count .ensures, answer-is a, r .read .ensures) at put) in
     record { puts = all; within = omega (arith, few-lines l) }
 
 pub report-spec : {M : Type 1} → statement M

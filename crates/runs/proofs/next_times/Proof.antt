@@ -9,22 +9,21 @@ use Rattle.ints.specs.declared.Seconds.{Seconds}
 use Rattle.model.specs.declared.Slot.{Slot}
 use Rattle.model.specs.Lists.{tabulate}
 use Rattle.model.specs.Network.{clocked, next, cycle}
-use Rattle.model.specs.Faults.{tableOf}
 use Rattle.model.specs.Answers.{allTimes}
-use Rattle.runs.specs.Steps.{timesOf}
+use Rattle.runs.specs.Steps.{timesOf, tableIn}
 use Rattle.runs.proofs.Laws.{computed}
 use Rattle.runs.proofs.next_times.Statement.{statement}
 use Rattle.runs.proofs.next_times.Tie as tie
 
 -- time i of the next cycle, counted from 1 on
-abbrev nextTime : ℕ → List Slot → List Seconds → ℕ → ℤ
-nextTime n table x = next n (tableOf n table) (clocked (timesOf n x))
+abbrev nextTime : ℕ → ℕ → List Slot → List Seconds → ℕ → ℤ
+nextTime n factor table x = next n (tableIn factor n table) (clocked (timesOf n x))
 
 abbrev Inv-loop : tie.InvT-loop
-Inv-loop table x n times₀ row₀ times row = (row ≤ n) × (times ≡ allTimes (tabulate row 1 (nextTime n table x)))
+Inv-loop table x n factor times₀ row₀ times row = (row ≤ n) × (times ≡ allTimes (tabulate row 1 (nextTime n factor table x)))
 
 abbrev μ-loop : tie.MeasureT-loop
-μ-loop table x n times₀ row₀ times row = n - row
+μ-loop table x n factor times₀ row₀ times row = n - row
 
 loop-holds : tie.Need-loop-holds Inv-loop μ-loop
 unfolding tabulate
@@ -34,7 +33,7 @@ loop-again : tie.Need-loop-again Inv-loop μ-loop
 loop-again c =
     let l = c .before .before .loop in
     let a = c .before .before .before .args in
-    (omega arith, simp (l .inv .1, c .row-largest .ensures) (computed (l .row) (omega arith) (nextTime (a .n) (a .table) (a .x))))
+    (omega arith, simp (l .inv .1, c .row-largest .ensures) (computed (l .row) (omega arith) (nextTime (a .n) (a .factor) (a .table) (a .x))))
 
 returns : tie.Need-returns Inv-loop μ-loop
 unfolding cycle

@@ -48,7 +48,8 @@ returns-2 c =
     let l = f .before .before .before .before .before in
     let left = f .before .before .if1 .left in
     let held = l .next-list .ensures .list in
-    let (z, e, s) = found-some (l .before .before .before .args .n) _ (rw (held-list held left .1) at (f .first-common .ensures)) (d .if2 .taken) in
+    let a = l .before .before .before .args in
+    let (z, e, s) = found-some (a .n) (a .parts) _ (rw (held-list held left .1) at (f .first-common .ensures)) (d .if2 .taken) in
     rw (c .settled2 .ensures, s) (met (held-open held left) e)
 
 plain-requires-2 : tie.Need-plain-requires-2
@@ -67,7 +68,8 @@ returns-3 c =
     let left = f .before .before .if1 .left in
     let held = l .next-list .ensures .list in
     let (n, is) = held-list held left in
-    let e = found-none (l .before .before .before .args .n) _ (rw is at (f .first-common .ensures)) (c .before .if2 .left) in
+    let a = l .before .before .before .args in
+    let e = found-none (a .n) (a .parts) _ (rw is at (f .first-common .ensures)) (c .before .if2 .left) in
     rw (c .plain2 .ensures, n) (on (held-open held left) e (rw n at is))
 
 pub one-cycle-spec : {M : Type 1} → statement M

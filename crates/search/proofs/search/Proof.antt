@@ -18,12 +18,12 @@ use Rattle.search.proofs.search.Statement.{statement}
 use Rattle.search.proofs.search.Tie as tie
 
 abbrev Inv-loop : tie.InvT-loop
-Inv-loop work₀ capacity times start target n end last half count₀ seen₀ source₀ k₀ work count seen source k =
-    (q : Searchable n capacity last (length work₀) times start target)
+Inv-loop work₀ capacity times start target n parts end last half count₀ seen₀ source₀ k₀ work count seen source k =
+    (q : Searchable n parts capacity last (length work₀) times start target)
     × Reached q work count source k × (half ≡ capacity * zoneSize n) × (length seen ≡ seenSize)
 
 abbrev μ-loop : tie.MeasureT-loop
-μ-loop work₀ capacity times start target n end last half count₀ seen₀ source₀ k₀ work count seen source k = last - k
+μ-loop work₀ capacity times start target n parts end last half count₀ seen₀ source₀ k₀ work count seen source k = last - k
 
 zone-size-requires : tie.Need-zone-size-requires Inv-loop μ-loop
 zone-size-requires c κs = c .pre .table .departures .few

@@ -27,37 +27,37 @@ table-size-requires c κs = few c .few
 pattern-size-requires : tie.Need-pattern-size-requires
 pattern-size-requires c κs = few (c .before) .few
 
-numbers-in-requires : tie.Need-numbers-in-requires
-numbers-in-requires c κs =
+times-in-requires : tie.Need-times-in-requires
+times-in-requires c κs =
     let t = c .before .before .before .before in
     let a = t .before in
     rw (t .table-size .ensures) (omega (arith, table-fits (few a)), times-in-limit (a .args .case) (a .args .capacity) _ (a .pre))
 
-numbers-in-requires-2 : tie.Need-numbers-in-requires-2
-numbers-in-requires-2 c κs =
+bounds-in-requires : tie.Need-bounds-in-requires
+bounds-in-requires c κs =
     let p = c .before .before .before .before in
     let a = p .before .before in
     rw (p .pattern-size .ensures) (pattern-fits (few a), start-in-limit (a .args .case) (a .args .capacity) _ (a .pre))
 
-numbers-in-requires-3 : tie.Need-numbers-in-requires-3
-numbers-in-requires-3 c κs =
+bounds-in-requires-2 : tie.Need-bounds-in-requires-2
+bounds-in-requires-2 c κs =
     let p = c .before .before .before .before .before in
     let a = p .before .before in
     rw (p .pattern-size .ensures) (pattern-fits (few a), target-in-limit (a .args .case) (a .args .capacity) _ (a .pre))
 
 -- the case in memory
-in-memory : (c : tie.After-numbers-in3) →
+in-memory : (c : tie.After-bounds-in2) →
     let b = c .before in
     let t = b .before in
-    CaseIn (t .before .before .before .before .before .before .args .case) (t .numbers-in .result) (b .numbers-in2 .result) (c .numbers-in3 .result)
+    CaseIn (t .before .before .before .before .before .before .args .case) (t .times-in .result) (b .bounds-in .result) (c .bounds-in2 .result)
 in-memory c =
     let b = c .before in
     let t = b .before in
     let p = t .before .before .before .before in
     record {
-      times-in = rw (p .before .table-size .ensures) at (t .numbers-in .ensures);
-      start-in = rw (p .pattern-size .ensures) at (b .numbers-in2 .ensures);
-      target-in = rw (p .pattern-size .ensures) at (c .numbers-in3 .ensures);
+      times-in = rw (p .before .table-size .ensures) at (t .times-in .ensures);
+      start-in = rw (p .pattern-size .ensures) at (b .bounds-in .ensures);
+      target-in = rw (p .pattern-size .ensures) at (c .bounds-in2 .ensures);
     }
 
 -- the parts of the arrays that are lent
@@ -65,7 +65,7 @@ array-share-prefix-times : tie.Need-array-share-prefix-times
 array-share-prefix-times c =
     let t = c .before .before in
     let z = t .before .before .before .before .before in
-    table-room (few (z .before)) (t .numbers-in .result) (t .numbers-in .ensures .size) (z .table-size .ensures)
+    table-room (few (z .before)) (t .times-in .result) (t .times-in .ensures .1) (z .table-size .ensures)
 
 slice-aggregate-times : tie.Need-slice-aggregate-times
 slice-aggregate-times c = sym (length-take-le _ _ (array-share-prefix-times (c .before)))
@@ -74,7 +74,7 @@ array-share-prefix-start : tie.Need-array-share-prefix-start
 array-share-prefix-start c =
     let b = c .before .before in
     let p = b .before .before .before .before .before in
-    pattern-room (few (p .before .before)) (b .numbers-in2 .result) (b .numbers-in2 .ensures .size) (p .pattern-size .ensures)
+    pattern-room (few (p .before .before)) (b .bounds-in .result) (b .bounds-in .ensures .1) (p .pattern-size .ensures)
 
 slice-aggregate-start : tie.Need-slice-aggregate-start
 slice-aggregate-start c = sym (length-take-le _ _ (array-share-prefix-start (c .before)))
@@ -83,7 +83,7 @@ array-share-prefix-target : tie.Need-array-share-prefix-target
 array-share-prefix-target c =
     let m = c .before .before in
     let p = m .before .before .before .before .before .before in
-    pattern-room (few (p .before .before)) (m .numbers-in3 .result) (m .numbers-in3 .ensures .size) (p .pattern-size .ensures)
+    pattern-room (few (p .before .before)) (m .bounds-in2 .result) (m .bounds-in2 .ensures .1) (p .pattern-size .ensures)
 
 slice-aggregate-target : tie.Need-slice-aggregate-target
 slice-aggregate-target c = sym (length-take-le _ _ (array-share-prefix-target (c .before)))
@@ -94,8 +94,8 @@ differences-requires c κs =
     let b = m .before in
     let p = b .before .before .before .before .before in
     let d = few (p .before .before) in (
-      in-pattern d (b .numbers-in2 .result) (b .numbers-in2 .ensures .size) (p .pattern-size .ensures),
-      in-pattern d (m .numbers-in3 .result) (m .numbers-in3 .ensures .size) (p .pattern-size .ensures),
+      in-pattern d (b .bounds-in .result) (b .bounds-in .ensures .1) (p .pattern-size .ensures),
+      in-pattern d (m .bounds-in2 .result) (m .bounds-in2 .ensures .1) (p .pattern-size .ensures),
     )
 
 first-repeat-requires : tie.Need-first-repeat-requires
@@ -128,13 +128,14 @@ plan-made c =
 search-requires : tie.Need-search-requires
 unfolding network
 search-requires c κs =
-    let q = c .before .before in
+    let d = c .before in
+    let q = d .before .before in
     let m = q .before .before .before .before .before .before in
     let p = m .before .before .before .before .before .before in
     let a = p .before .before in
     let w = a .args .case in
     rw (p .before .table-size .ensures, p .pattern-size .ensures)
-    (searchable w (a .args .capacity) _ (a .pre) (in-memory m) (omega (arith, plan-made q .cycles, plan-within (network w))))
+    (searchable w (a .args .capacity) _ (a .pre) (in-memory m) (d .parts .ensures) (omega (arith, plan-made q .cycles, plan-within (network w))))
 
 clear-requires : tie.Need-clear-requires
 clear-requires c κs = search needs
@@ -146,7 +147,7 @@ returns : tie.Need-returns
 returns c =
     let l = c .before in
     let s = l .before .before .before in
-    let q = s .before .before .before in
+    let q = s .before .before .before .before in
     let m = q .before .before .before .before .before .before in
     let p = m .before .before .before .before .before .before in
     let a = p .before .before in (
@@ -161,9 +162,9 @@ searched-spec =
     (tie.spec
     table-size-requires
     pattern-size-requires
-    numbers-in-requires
-    numbers-in-requires-2
-    numbers-in-requires-3
+    times-in-requires
+    bounds-in-requires
+    bounds-in-requires-2
     array-share-prefix-times
     slice-aggregate-times
     array-share-prefix-start
@@ -173,6 +174,7 @@ searched-spec =
     differences-requires
     first-repeat-requires
     plan-of-requires
+    (λ c κs. search needs)
     search-requires
     clear-requires
     same-length

@@ -9,10 +9,11 @@ use Rattle.model.specs.Search.{attains, rowConstraints}
 use Rattle.model.proofs.Selections.{chosen-at}
 use Rattle.model.proofs.Rows.{of-row}
 use Rattle.model.proofs.Preimage.{row-fits}
-use Rattle.memory.specs.Numbers.{boundsIn, timesIn}
+use Rattle.memory.specs.Numbers.{boundsIn, timesIn, Limit}
 use Rattle.zones.specs.Conditions.{RowReady}
 use Rattle.zones.specs.Inner.{Adds, images}
-use Rattle.zones.proofs.Toward.{Toward, Parts, toward-start, first-of, given-up, onward, at-last}
+use Rattle.memory.proofs.Toward.{Toward, Parts, toward-start, first-of}
+use Rattle.zones.proofs.Leaving.{given-up, onward, at-last}
 use Rattle.zones.proofs.add_row.Statement.{statement}
 use Rattle.zones.proofs.add_row.Tie as tie
 
@@ -23,9 +24,10 @@ module _ {n : ℕ} {part times zone : List ℤ} {cols : List ℕ} {i s : ℕ} (r
   adds : Adds n times i s
   adds = record { table = r .table; row = r .to-n; column = chosen-at (r .from-one) (r .column) }
 
-  whole : Toward n part row part row
+  whole : Toward n Limit (boundsIn part) row (boundsIn part) row
   whole = toward-start (record {
-    set = r .set;
+    departures = r .table .departures;
+    closed = r .set .closed;
     fits = of-row _ n (timesIn times) (boundsIn zone) cols i s (row-fits n (timesIn times) (boundsIn zone) (r .columns) (adds .column));
     fitting = r .fitting;
   }) refl
@@ -37,9 +39,6 @@ module _ {n : ℕ} {part times zone : List ℤ} {cols : List ℕ} {i s : ℕ} (r
 attain-requires : tie.Need-attain-requires
 attain-requires c κs = let r = c .before .before .pre in record { taking = first-of (two r) (whole r); adds = adds r; from-one = r .from-one }
 
-same-length : tie.Need-same-length
-same-length c = search needs
-
 returns : tie.Need-returns
 returns c =
     let k = c .before .before in
@@ -50,8 +49,8 @@ attained : (e : tie.Else1) →
     let s = e .before .before .before .before .before .args in
     let a = timesIn (s .times .now) in
     let d = boundsIn (s .zone .now) in
-    Toward (s .n) (s .part .now) (rowConstraints (s .n) a d (s .cols .now) (s .i) (s .s)) (e .before .before .attain .last .0)
-    (images (s .n) a d (s .cols .now) (s .i) (s .s))
+    Toward (s .n) Limit (boundsIn (s .part .now)) (rowConstraints (s .n) a d (s .cols .now) (s .i) (s .s))
+    (boundsIn (e .before .before .attain .last .0)) (images (s .n) a d (s .cols .now) (s .i) (s .s))
 attained e =
     let k = e .before .before in
     let r = k .before .before .before .pre in
@@ -63,9 +62,6 @@ keep-images-requires c κs =
     let p = e .before .before .before .before .before .pre in
     record { taking = attained e .taking; source = p .source; adds = adds p; cols-size = p .cols-size; columns = p .columns }
 
-same-length-2 : tie.Need-same-length-2
-same-length-2 c = search needs
-
 returns-2 : tie.Need-returns-2
 returns-2 c =
     let k = c .before in
@@ -74,4 +70,4 @@ returns-2 c =
 pub add-row-spec : {M : Type 1} → statement M
 add-row-spec =
     tie.close
-    (tie.spec attain-requires same-length returns keep-images-requires same-length-2 returns-2)
+    (tie.spec attain-requires (λ c. search needs) returns keep-images-requires (λ c. search needs) returns-2)

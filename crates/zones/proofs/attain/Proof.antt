@@ -6,19 +6,22 @@ use mathlib.Core.List.{[], _∷_}
 use lib.ListN.{length}
 use Rattle.model.specs.Network.{time}
 use Rattle.model.specs.Search.{chosen, slack, attains}
+use Rattle.model.specs.Faults.{timeOf}
 use Rattle.model.specs.Conditions.{Small}
 use Rattle.model.proofs.Rows.{behind}
 use Rattle.model.proofs.Size.{small-mono}
 use Rattle.model.proofs.Tabulated.{from, from-first, from-end}
-use Rattle.memory.specs.Numbers.{timesIn, asBound, asTime, InMemory}
+use Rattle.memory.specs.Numbers.{boundsIn, timesIn, asBound, Limit, InMemory}
 use Rattle.zones.proofs.Columns.{slack-small}
-use Rattle.zones.proofs.Toward.{Toward, Parts, toward-start, first-of, given-up, onward, arrived, next-one}
+use Rattle.memory.proofs.Toward.{Toward, Parts, toward-start, first-of, next-one}
+use Rattle.zones.proofs.Leaving.{given-up, onward, arrived}
 use Rattle.zones.proofs.attain.Statement.{statement}
 use Rattle.zones.proofs.attain.Tie as tie
 
 abbrev Inv-loop : tie.InvT-loop
 Inv-loop part₀ times n i s c j₀ part j =
-    Toward n part₀ (attains n (timesIn times) i s) part (from (behind n (timesIn times) i s) (suc n) j) × (1 ≤ j) × (j ≤ suc n) × (length part ≡ length part₀)
+    Toward n Limit (boundsIn part₀) (attains n (timesIn times) i s) (boundsIn part) (from (behind n (timesIn times) i s) (suc n) j)
+    × (1 ≤ j) × (j ≤ suc n) × (length part ≡ length part₀)
 
 abbrev μ-loop : tie.MeasureT-loop
 μ-loop part₀ times n i s c j₀ part j = suc n - j
@@ -38,8 +41,10 @@ time-at-requires c κs =
     record { table = p .adds .table; row-from = p .from-one; row-to = p .adds .row; col-from = c .before .loop .inv .1; col-to = c .loop-test .taken }
 
 near : (c : tie.After-time-at Inv-loop μ-loop) →
-    Small (InMemory + InMemory) (slack (c .before .before .before .chosen .result .0) (asTime (c .time-at .result)))
-near c = slack-small _ _ (c .before .before .before .chosen .ensures .small) (c .time-at .ensures .small)
+    Small (InMemory + InMemory) (slack (c .before .before .before .chosen .result .0) (timeOf (c .time-at .result)))
+near c =
+    let t = c .time-at .ensures in
+    rw (t .is) (slack-small _ _ (c .before .before .before .chosen .ensures .small) (t .small))
 
 slack-requires : tie.Need-slack-requires Inv-loop μ-loop
 slack-requires c κs = small-mono (omega arith) (near c)
@@ -68,9 +73,6 @@ take-in-requires c κs =
       small = rw (l .slack .ensures) (small-mono (omega arith) (near t));
     }
 
-same-length : tie.Need-same-length Inv-loop μ-loop
-same-length c = omega arith
-
 returns : tie.Need-returns Inv-loop μ-loop
 returns c =
     let q = c .before .before in
@@ -79,9 +81,6 @@ returns c =
 
 add-j : tie.Need-add-j Inv-loop μ-loop
 add-j c = let s = c .before .before .before .before .before .before .before .before .before in omega (arith, s .pre .adds .table .departures .few)
-
-loop-less : tie.Need-loop-less Inv-loop μ-loop
-loop-less c = omega arith
 
 loop-again : tie.Need-loop-again Inv-loop μ-loop
 loop-again c =
@@ -110,10 +109,10 @@ attain-spec =
     time-at-requires
     slack-requires
     take-in-requires
-    same-length
+    (λ c. omega arith)
     returns
     add-j
-    loop-less
+    (λ c. omega arith)
     loop-again
     same-length-2
     returns-2)

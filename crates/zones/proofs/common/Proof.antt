@@ -7,15 +7,16 @@ use lib.ListN.{length}
 use Rattle.model.specs.Pattern.{patternConstraints}
 use Rattle.model.proofs.Patterns.{pattern-fits}
 use Rattle.model.proofs.Tabulated.{from, from-first}
-use Rattle.memory.specs.Numbers.{boundsIn}
+use Rattle.memory.specs.Numbers.{boundsIn, Limit}
 use Rattle.zones.specs.Inner.{pairRow}
-use Rattle.zones.proofs.Toward.{Toward, toward-start, first-of, given-up, onward, arrived, next-list, end-list}
+use Rattle.memory.proofs.Toward.{Toward, toward-start, first-of, next-list, end-list}
+use Rattle.zones.proofs.Leaving.{given-up, onward, arrived}
 use Rattle.zones.proofs.common.Statement.{statement}
 use Rattle.zones.proofs.common.Tie as tie
 
 abbrev Inv-loop : tie.InvT-loop
 Inv-loop zone₀ pattern n i₀ zone i =
-    Toward n zone₀ (patternConstraints n (boundsIn pattern)) zone (flatten (from (pairRow n (boundsIn pattern)) (suc n) i))
+    Toward n Limit (boundsIn zone₀) (patternConstraints n (boundsIn pattern)) (boundsIn zone) (flatten (from (pairRow n (boundsIn pattern)) (suc n) i))
     × (i ≤ suc n) × (length zone ≡ length zone₀)
 
 abbrev μ-loop : tie.MeasureT-loop
@@ -26,7 +27,8 @@ unfolding patternConstraints
 loop-holds c =
     let n = c .args .n in
     let fits = pattern-fits n (boundsIn (c .args .pattern .now)) in (
-      toward-start (record { set = c .pre .set; fits = fits; fitting = c .pre .fitting }) (ap flatten (from-first _ (suc n) 0 (suc n) (omega arith))),
+      toward-start (record { departures = c .pre .limits .departures; closed = c .pre .set .closed; fits = fits; fitting = c .pre .fitting })
+          (ap flatten (from-first _ (suc n) 0 (suc n) (omega arith))),
       omega arith,
       refl,
     )
@@ -36,9 +38,6 @@ common-row-requires c κs =
     let l = c .before in
     record { taking = first-of (next-list _ _ _ (omega arith)) (l .before .loop .inv .0); limits = l .before .before .pre .limits; row = omega arith }
 
-same-length : tie.Need-same-length Inv-loop μ-loop
-same-length c = omega arith
-
 returns : tie.Need-returns Inv-loop μ-loop
 returns c =
     let k = c .before .before in
@@ -46,9 +45,6 @@ returns c =
 
 add-i : tie.Need-add-i Inv-loop μ-loop
 add-i c = let s = c .before .before .before .before .before .before in omega (arith, s .pre .limits .departures .few)
-
-loop-less : tie.Need-loop-less Inv-loop μ-loop
-loop-less c = omega arith
 
 loop-again : tie.Need-loop-again Inv-loop μ-loop
 loop-again c =
@@ -69,10 +65,10 @@ common-spec =
     μ-loop
     loop-holds
     common-row-requires
-    same-length
+    (λ c. omega arith)
     returns
     add-i
-    loop-less
+    (λ c. omega arith)
     loop-again
     same-length-2
     returns-2)

@@ -5,15 +5,16 @@ use mathlib.Core.Path.{_≡_, refl}
 use lib.ListN.{length}
 use Rattle.model.proofs.Size.{small-mono}
 use Rattle.model.proofs.Tabulated.{from, from-first, from-end}
-use Rattle.memory.specs.Numbers.{boundsIn}
+use Rattle.memory.specs.Numbers.{boundsIn, Limit}
 use Rattle.zones.specs.Inner.{pairRow, pairLimit}
-use Rattle.zones.proofs.Toward.{Toward, toward-start, first-of, given-up, onward, arrived, next-one}
+use Rattle.memory.proofs.Toward.{Toward, toward-start, first-of, next-one}
+use Rattle.zones.proofs.Leaving.{given-up, onward, arrived}
 use Rattle.zones.proofs.common_row.Statement.{statement}
 use Rattle.zones.proofs.common_row.Tie as tie
 
 abbrev Inv-loop : tie.InvT-loop
 Inv-loop zone₀ pattern n i j₀ zone j =
-    Toward n zone₀ (pairRow n (boundsIn pattern) i) zone (from (pairLimit n (boundsIn pattern) i) (suc n) j)
+    Toward n Limit (boundsIn zone₀) (pairRow n (boundsIn pattern) i) (boundsIn zone) (from (pairLimit n (boundsIn pattern) i) (suc n) j)
     × (j ≤ suc n) × (length zone ≡ length zone₀)
 
 abbrev μ-loop : tie.MeasureT-loop
@@ -32,9 +33,6 @@ take-in-requires c κs =
     let q = b .pair-bound .ensures in
     record { taking = rw (q .is) (first-of (next-one _ _ _ (omega arith)) (b .before .before .loop .inv .0)); small = small-mono (omega arith) (q .small) }
 
-same-length : tie.Need-same-length Inv-loop μ-loop
-same-length c = omega arith
-
 returns : tie.Need-returns Inv-loop μ-loop
 returns c =
     let k = c .before .before in
@@ -43,9 +41,6 @@ returns c =
 
 add-j : tie.Need-add-j Inv-loop μ-loop
 add-j c = let s = c .before .before .before .before .before .before .before in omega (arith, s .pre .limits .departures .few)
-
-loop-less : tie.Need-loop-less Inv-loop μ-loop
-loop-less c = omega arith
 
 loop-again : tie.Need-loop-again Inv-loop μ-loop
 loop-again c =
@@ -71,10 +66,10 @@ common-row-spec =
     loop-holds
     pair-bound-requires
     take-in-requires
-    same-length
+    (λ c. omega arith)
     returns
     add-j
-    loop-less
+    (λ c. omega arith)
     loop-again
     same-length-2
     returns-2)

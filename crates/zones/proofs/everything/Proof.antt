@@ -6,7 +6,7 @@ use lib.ListN.{length}
 use Rattle.model.specs.Matrix.{diagonal, everything}
 use Rattle.memory.specs.Numbers.{boundsIn}
 use Rattle.memory.proofs.Places.{bounds-size}
-use Rattle.zones.proofs.Fills.{Filled, rows-start, rows-step, rows-done}
+use Rattle.memory.proofs.Fills.{Filled, rows-start, rows-step, rows-done}
 use Rattle.zones.proofs.everything.Statement.{statement}
 use Rattle.zones.proofs.everything.Tie as tie
 
@@ -18,15 +18,6 @@ abbrev μ-loop : tie.MeasureT-loop
 
 loop-holds : tie.Need-loop-holds Inv-loop μ-loop
 loop-holds c = (rows-start _ _ _, omega arith, omega arith)
-
-open-row-requires : tie.Need-open-row-requires Inv-loop μ-loop
-open-row-requires c κs = omega arith
-
-add-i : tie.Need-add-i Inv-loop μ-loop
-add-i c = omega arith
-
-loop-less : tie.Need-loop-less Inv-loop μ-loop
-loop-less c = omega arith
 
 loop-again : tie.Need-loop-again Inv-loop μ-loop
 loop-again c =
@@ -48,9 +39,9 @@ everything-spec =
     Inv-loop
     μ-loop
     loop-holds
-    open-row-requires
-    add-i
-    loop-less
+    (λ c κs. omega arith)
+    (λ c. omega arith)
+    (λ c. omega arith)
     loop-again
     same-length
     returns)

@@ -5,9 +5,10 @@ use mathlib.Core.Path.{_≡_, refl, ap}
 use mathlib.Core.List.{flatten}
 use lib.ListN.{length}
 use Rattle.model.proofs.Tabulated.{from, from-first}
-use Rattle.memory.specs.Numbers.{boundsIn, timesIn}
+use Rattle.memory.specs.Numbers.{boundsIn, timesIn, Limit}
 use Rattle.zones.specs.Inner.{imagePairs, images}
-use Rattle.zones.proofs.Toward.{Toward, toward-start, first-of, given-up, onward, arrived, next-list, end-list}
+use Rattle.memory.proofs.Toward.{Toward, toward-start, first-of, next-list, end-list}
+use Rattle.zones.proofs.Leaving.{given-up, onward, arrived}
 use Rattle.zones.proofs.keep_images.Statement.{statement}
 use Rattle.zones.proofs.keep_images.Tie as tie
 
@@ -15,7 +16,8 @@ abbrev Inv-loop : tie.InvT-loop
 Inv-loop part₀ times zone cols n i s last l₀ part l =
     let a = timesIn times in
     let d = boundsIn zone in
-    Toward n part₀ (images n a d cols i s) part (flatten (from (imagePairs n a d cols i s) i l)) × (l ≤ i) × (length part ≡ length part₀)
+    Toward n Limit (boundsIn part₀) (images n a d cols i s) (boundsIn part) (flatten (from (imagePairs n a d cols i s) i l))
+    × (l ≤ i) × (length part ≡ length part₀)
 
 abbrev μ-loop : tie.MeasureT-loop
 μ-loop part₀ times zone cols n i s last l₀ part l = i - l
@@ -42,9 +44,6 @@ keep-both-requires c κs =
       adds-other = record { table = p .adds .table; row = omega (arith, p .adds .row); column = p .columns _ (l .loop-test .taken) };
     }
 
-same-length : tie.Need-same-length Inv-loop μ-loop
-same-length c = omega arith
-
 returns : tie.Need-returns Inv-loop μ-loop
 returns c =
     let k = c .before .before in
@@ -53,9 +52,6 @@ returns c =
 
 add-l : tie.Need-add-l Inv-loop μ-loop
 add-l c = let s = c .before .before .before .before .before .before .before .before in omega (arith, s .pre .adds .row, s .pre .adds .table .departures .few)
-
-loop-less : tie.Need-loop-less Inv-loop μ-loop
-loop-less c = omega arith
 
 loop-again : tie.Need-loop-again Inv-loop μ-loop
 loop-again c =
@@ -79,10 +75,10 @@ keep-images-spec =
     mul-t
     shared-slice-read-t
     keep-both-requires
-    same-length
+    (λ c. omega arith)
     returns
     add-l
-    loop-less
+    (λ c. omega arith)
     loop-again
     same-length-2
     returns-2)

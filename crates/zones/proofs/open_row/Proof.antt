@@ -6,9 +6,9 @@ use mathlib.Core.Path.{_≡_, _∙_}
 use lib.ListN.{length}
 use Rattle.model.specs.Matrix.{diagonal}
 use Rattle.memory.specs.Numbers.{boundsIn}
-use Rattle.zones.specs.Inner.{RowFilled}
+use Rattle.memory.specs.Matrices.{RowFilled}
 use Rattle.memory.proofs.Places.{bounds-size}
-use Rattle.zones.proofs.Fills.{row-start, row-step}
+use Rattle.memory.proofs.Fills.{row-start, row-step}
 use Rattle.zones.proofs.open_row.Statement.{statement}
 use Rattle.zones.proofs.open_row.Tie as tie
 
@@ -21,17 +21,8 @@ abbrev μ-loop : tie.MeasureT-loop
 loop-holds : tie.Need-loop-holds Inv-loop μ-loop
 loop-holds c = (row-start _ _ _ _, omega arith, omega arith)
 
-diagonal-requires : tie.Need-diagonal-requires Inv-loop μ-loop
-diagonal-requires c κs = search needs
-
 put-requires : tie.Need-put-requires Inv-loop μ-loop
 put-requires c κs = (omega arith, c .before .diagonal .ensures .1)
-
-add-j : tie.Need-add-j Inv-loop μ-loop
-add-j c = omega arith
-
-loop-less : tie.Need-loop-less Inv-loop μ-loop
-loop-less c = omega arith
 
 loop-again : tie.Need-loop-again Inv-loop μ-loop
 loop-again c =
@@ -58,10 +49,10 @@ open-row-spec =
     Inv-loop
     μ-loop
     loop-holds
-    diagonal-requires
+    (λ c κs. search needs)
     put-requires
-    add-j
-    loop-less
+    (λ c. omega arith)
+    (λ c. omega arith)
     loop-again
     same-length
     returns)

@@ -1,18 +1,16 @@
--- Place by place: row b is as it was where it is read, also where it is row i itself.
+-- Place by place.
 use borrow.Author.Needs.{needs}
 use Prim.Native.Nat.{suc, _-_, _≤_}
 use native.Mathlib.Omega.{arith}
-use native.Mathlib.Decide.{ℕ-discrete}
-use mathlib.Core.Path.{_≡_, sym, ap, ap₂, _∙_}
+use mathlib.Core.Path.{_≡_, ap, ap₂, _∙_}
 use lib.ListN.{length}
-use Rattle.model.specs.Bound.{any, plus, tighter}
-use Rattle.model.specs.Matrix.{entry}
-use Rattle.model.proofs.Bounds.{tighter-of-le}
+use Rattle.model.specs.Bound.{plus, tighter}
 use Rattle.model.proofs.Size.{small-mono, small-sum}
 use Rattle.memory.specs.Numbers.{boundsIn, asBound}
-use Rattle.zones.specs.Inner.{across, RowFilled}
+use Rattle.memory.specs.Matrices.{across, RowFilled}
 use Rattle.memory.proofs.Places.{bounds-size}
-use Rattle.zones.proofs.Fills.{row-start, row-step, row-kept}
+use Rattle.memory.proofs.Fills.{row-start}
+use Rattle.memory.proofs.Relaxing.{new-is, row-relaxed}
 use Rattle.zones.proofs.relax_entries.Statement.{statement}
 use Rattle.zones.proofs.relax_entries.Tie as tie
 
@@ -26,64 +24,39 @@ abbrev μ-loop : tie.MeasureT-loop
 loop-holds : tie.Need-loop-holds Inv-loop μ-loop
 loop-holds c = (row-start _ _ _ _, omega arith, omega arith)
 
-bound-at-requires : tie.Need-bound-at-requires Inv-loop μ-loop
-bound-at-requires c κs = omega arith
-
-bound-at-requires-2 : tie.Need-bound-at-requires-2 Inv-loop μ-loop
-bound-at-requires-2 c κs = omega arith
-
 plus-requires : tie.Need-plus-requires Inv-loop μ-loop
 plus-requires c κs =
     let s = c .before .before .before .before .before .before in
     small-mono (omega arith) (small-sum (s .pre .way-small) (c .bound-at2 .ensures .small))
 
-tighter-requires : tie.Need-tighter-requires Inv-loop μ-loop
-tighter-requires c κs = search needs
-
--- row b at the place
-base : (l : tie.In-loop Inv-loop μ-loop) →
-    let s = l .before .before .args in
-    let j = l .before .loop .j in
-    entry (suc (s .n)) (boundsIn (l .before .loop .zone)) (s .b) j ≡ entry (suc (s .n)) (boundsIn (s .zone .now)) (s .b) j
-base l =
-    let s = l .before .before in
-    let inv = l .before .loop .inv .0 in
-    elim (ℕ-discrete (s .args .b) (s .args .i)) [
-      | yes e ↦ rw e (inv .left _ (omega arith) (omega arith))
-      | no ne ↦ inv .others _ _ (s .pre .base) (omega arith) ne
-    ]
-
 -- the new entry
 new : (c : tie.After-tighter Inv-loop μ-loop) →
     let l = c .before .before .before .before .before .before in
     let s = l .before .before .args in
-    asBound (c .tighter .result) ≡ across (s .n) (boundsIn (s .zone .now)) (s .i) (s .b) (asBound (s .way)) (l .before .loop .j)
+    asBound (c .tighter .result) ≡ across (s .n) (boundsIn (l .before .loop .zone)) (s .i) (s .b) (asBound (s .way)) (l .before .loop .j)
 new c =
     let p = c .before in
     let y = p .before in
     let x = y .before .before in
     let l = x .before .before in
     c .tighter .ensures
-    ∙ ap₂ tighter (x .bound-at .ensures .is ∙ l .before .loop .inv .0 .left _ (omega arith) (omega arith))
-    (p .plus .ensures ∙ ap (plus (asBound (l .before .before .args .way))) (y .bound-at2 .ensures .is ∙ base l))
+    ∙ ap₂ tighter (x .bound-at .ensures .is) (p .plus .ensures ∙ ap (plus (asBound (l .before .before .args .way))) (y .bound-at2 .ensures .is))
 
 put-requires : tie.Need-put-requires Inv-loop μ-loop
 put-requires c κs =
-    let s = c .before .before .before .before .before .before .before .before .before in
-    (omega arith, rw (new (c .before)) (s .pre .new-small _ (omega arith)))
-
-add-j : tie.Need-add-j Inv-loop μ-loop
-add-j c = omega arith
-
-loop-less : tie.Need-loop-less Inv-loop μ-loop
-loop-less c = omega arith
+    let l = c .before .before .before .before .before .before .before in
+    let s = l .before .before in
+    let e = new (c .before) ∙ new-is (asBound (s .args .way)) (l .before .loop .inv .0) (s .pre .base) (omega arith) in
+    (omega arith, rw e (s .pre .new-small _ (omega arith)))
 
 loop-again : tie.Need-loop-again Inv-loop μ-loop
 loop-again c =
     let p = c .before in
     let t = p .before .before in
     let l = t .before .before .before .before .before .before in
-    (rw (p .put .ensures) (row-step _ (l .before .loop .inv .0) (bounds-size _ ∙ omega arith) (omega arith) (omega arith) (new t)), omega arith, omega arith)
+    let s = l .before .before in
+    let next = row-relaxed (asBound (s .args .way)) (l .before .loop .inv .0) (s .pre .base) (omega arith) in
+    (rw (p .put .ensures) (next _ (bounds-size _ ∙ omega arith) (omega arith) (new t)), omega arith, omega arith)
 
 same-length : tie.Need-same-length Inv-loop μ-loop
 same-length c = c .before .loop .inv .2
@@ -100,13 +73,13 @@ relax-entries-spec =
     Inv-loop
     μ-loop
     loop-holds
-    bound-at-requires
-    bound-at-requires-2
+    (λ c κs. omega arith)
+    (λ c κs. omega arith)
     plus-requires
-    tighter-requires
+    (λ c κs. search needs)
     put-requires
-    add-j
-    loop-less
+    (λ c. omega arith)
+    (λ c. omega arith)
     loop-again
     same-length
     returns)

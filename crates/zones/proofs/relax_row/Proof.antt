@@ -1,16 +1,12 @@
 -- A blank way leaves the row, and so does one that is no tighter than the bound there: the zone is closed.
 use borrow.Author.Needs.{needs}
 use native.Mathlib.Omega.{arith}
-use mathlib.Core.Path.{sym}
-use Rattle.model.specs.Bound.{any, plus}
-use Rattle.model.proofs.Bounds.{leB-refl, leB-trans, plus-mono, tighter-of-le}
-use Rattle.zones.proofs.Fills.{row-kept}
+use Rattle.memory.proofs.Relaxing.{row-left, row-implied}
 use Rattle.zones.proofs.relax_row.Statement.{statement}
 use Rattle.zones.proofs.relax_row.Tie as tie
 
 returns : tie.Need-returns
-unfolding plus
-returns c = rw (c .enum-told .given .1) (row-kept _ _ _ _ (λ l h. sym (tighter-of-le any)))
+returns c = rw (c .enum-told .given .1) (row-left _ _ _ _)
 
 returns-2 : tie.Need-returns-2
 returns-2 c =
@@ -18,7 +14,7 @@ returns-2 c =
     let x = i .before in
     let w = x .before .before .before in
     let le = rw (x .bound-at .ensures .is) at (i .implies .ensures (c .if1 .taken)) in
-    rw (w .way .given .1) (row-kept _ _ _ _ (λ l h. sym (tighter-of-le (leB-trans (w .before .before .pre .closed l h) (plus-mono le (leB-refl _))))))
+    rw (w .way .given .1) (row-implied (rw (w .way .given .1) at (w .before .before .pre)) le)
 
 pub relax-row-spec : {M : Type 1} → statement M
 relax-row-spec =

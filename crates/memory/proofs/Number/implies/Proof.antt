@@ -3,6 +3,7 @@ use borrow.Author.Needs.{needs}
 use Prim.Native.Nat.{ℕ}
 use mathlib.Core.Path.{_≡_, sym, _∙_}
 use Rattle.model.proofs.Bounds.{bounds}
+use Rattle.memory.proofs.InHalves.{halves-le}
 use Rattle.memory.proofs.Number.implies.Statement.{statement}
 use Rattle.memory.proofs.Number.implies.Tie as tie
 
@@ -19,7 +20,7 @@ returns : tie.Need-returns
 returns c e = let z : _≡_ {A = ℕ} 0 1 = cc in absurd (omega bounds)
 
 returns-2 : tie.Need-returns-2
-returns-2 c e = rw (c .before .before .self .given .1) (omega (bounds, sym (c .at-most .ensures) ∙ e))
+returns-2 c e = rw (c .before .before .self .given .1) (halves-le _ _ (sym (c .at-most .ensures) ∙ e))
 
 pub implies-spec : {M : Type 1} → statement M
 implies-spec = tie.close (tie.spec enum-told enum-known-self at-most-requires returns returns-2)

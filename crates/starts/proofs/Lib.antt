@@ -1,0 +1,4 @@
+-- The laws that the functions' proofs share.
+pub mod Places
+pub mod Readied
+pub mod Parted

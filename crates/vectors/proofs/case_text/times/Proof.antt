@@ -1,0 +1,28 @@
+-- One time at each turn.
+use borrow.Author.Needs.{needs}
+use Prim.Native.Nat.{_-_, _≤_}
+use Rattle.model.specs.Sizes.{mostBounds}
+use Rattle.vectors.proofs.case_text.times.Statement.{statement}
+use Rattle.vectors.proofs.case_text.times.Tie as tie
+
+abbrev Inv-loop : tie.InvT-loop
+Inv-loop n count slots k₀ k = k ≤ mostBounds
+
+abbrev μ-loop : tie.MeasureT-loop
+μ-loop n count slots k₀ k = mostBounds - k
+
+pub times-spec : {M : Type 1} → statement M
+times-spec =
+    tie.close
+    (tie.spec
+    Inv-loop
+    μ-loop
+    (λ c. search needs)
+    (λ c. search needs)
+    (λ c. search needs)
+    (λ c κs. search needs)
+    (λ c κs. search needs)
+    (λ c. search needs)
+    (λ c. search needs)
+    (λ c. search needs)
+    (λ c. search needs))
