@@ -63,7 +63,7 @@ fn computed() -> f64 {
 }
 
 /// The seconds of one call, over a turn, and the answer.
-fn turn(mut version: impl FnMut() -> Option<Answer>) -> (f64, Option<Answer>) {
+pub fn turn(mut version: impl FnMut() -> Option<Answer>) -> (f64, Option<Answer>) {
     let (begin, before) = (Instant::now(), computed());
     let mut calls = 0.0;
     loop {

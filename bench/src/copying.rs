@@ -16,7 +16,7 @@ use std::process::{Command, Stdio};
 use std::{env, fs};
 
 /// The function whose instructions count, with all that it calls.
-const COUNTED: &str = "tramcheck_verdict_unpacked";
+const COUNTED: &str = "tramcheck_verdict_unpacked_15";
 
 /// Instructions of a call of memcpy: its three arguments and the call.
 const CALL: u64 = 4;

@@ -4,9 +4,9 @@
 use crate::families::zeros;
 use crate::rows::{self, Cost};
 use crate::table::words;
-use crate::CAPACITY;
 use evidence::archive::Answer;
 use evidence::case::Case;
+use evidence::text::capacity;
 use std::time::Instant;
 
 /// Selections of a zone, none of them empty: 7 columns in each of 7 rows.
@@ -18,7 +18,7 @@ const ZONES: u64 = 127;
 /// Runs a version of plain Rust once and prints what it took.
 fn timed(name: &str, case: &Case, version: fn(&Case, usize) -> (Answer, Cost)) -> (Answer, Cost) {
     let begin = Instant::now();
-    let found = version(case, CAPACITY);
+    let found = version(case, capacity(case.n));
     let took = words(begin.elapsed().as_secs_f64());
     let selections = found.1.selections;
     println!("| {name} | {} | {selections} | {took} |", case.horizon);

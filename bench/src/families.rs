@@ -1,11 +1,11 @@
 //! Families of cases. Seeds are fixed, so each run has the same cases.
 
 use crate::rows;
-use crate::CAPACITY;
 use evidence::archive::Verdict;
-use evidence::case::{most, pair, Case, Pattern, Times};
+use evidence::case::{most, pair, Case, Pattern, Times, BOUNDS, DEPARTURES};
 use evidence::enumeration::image;
 use evidence::random::Random;
+use evidence::text::capacity;
 
 /// Cases of one kind.
 pub struct Family {
@@ -22,16 +22,16 @@ const CASES: usize = 20;
 const LIMIT: u64 = 3_000_000;
 
 /// Bounds low <= x(i) - x(j) <= high.
-fn window(pattern: &mut Pattern, n: usize, (i, j): (usize, usize), low: i64, high: i64) {
+pub fn window(pattern: &mut Pattern, n: usize, (i, j): (usize, usize), low: i64, high: i64) {
     pattern[pair(n, i, j)] = Some(most(high));
     pattern[pair(n, j, i)] = Some(most(-low));
 }
 
 /// Bounds each difference to `slack` seconds around that of given times. With
 /// the clock, these are bounds on the times too.
-fn around(n: usize, x: &Times, slack: i64, clock: bool) -> Pattern {
+pub fn around(n: usize, x: &Times, slack: i64, clock: bool) -> Pattern {
     let at = |i: usize| if i == 0 { 0 } else { x[i - 1] };
-    let mut pattern = [None; 56];
+    let mut pattern = [None; BOUNDS];
     for j in usize::from(!clock)..n {
         for i in j + 1..=n {
             let apart = at(i) - at(j);
@@ -42,7 +42,7 @@ fn around(n: usize, x: &Times, slack: i64, clock: bool) -> Pattern {
 }
 
 /// A table with `count` times in each row.
-fn table(random: &mut Random, n: usize, count: usize, (low, high): (i64, i64)) -> Case {
+pub fn table(random: &mut Random, n: usize, count: usize, (low, high): (i64, i64)) -> Case {
     let mut case = Case::empty(n, 64);
     for row in 0..n {
         let mut columns: Vec<usize> = (0..n).collect();
@@ -58,9 +58,9 @@ fn table(random: &mut Random, n: usize, count: usize, (low, high): (i64, i64)) -
 /// cycles. One kind bounds differences, one the clock too; a third has a start
 /// apart from all that the target can come from, so that nothing is reached; in
 /// the fourth the target is not quite what the start becomes.
-fn with_patterns(random: &mut Random, mut case: Case, kind: usize) -> Case {
+pub fn with_patterns(random: &mut Random, mut case: Case, kind: usize) -> Case {
     let n = case.n;
-    let mut x = [0; 7];
+    let mut x = [0; DEPARTURES];
     for time in x.iter_mut().take(n) {
         *time = random.between(0, 1200);
     }
@@ -73,7 +73,7 @@ fn with_patterns(random: &mut Random, mut case: Case, kind: usize) -> Case {
     case.start = around(n, &x, slack, clock);
     case.target = around(n, &then, slack, clock);
     if kind == 2 {
-        case.start = [None; 56];
+        case.start = [None; BOUNDS];
         window(&mut case.start, n, (1, 0), 100_000, 100_000 + slack);
     }
     case
@@ -82,7 +82,7 @@ fn with_patterns(random: &mut Random, mut case: Case, kind: usize) -> Case {
 /// Whether the verdict says enough for a place in a family: not decided at
 /// cycle 1, and table full only sometimes.
 fn of_use(random: &mut Random, case: &Case) -> bool {
-    match rows::verdict(case, CAPACITY).0.verdict {
+    match rows::verdict(case, capacity(case.n)).0.verdict {
         Verdict::Refused(fault) => fault.returned > 1 && random.chance(1, 6),
         Verdict::Reached { cycle } => cycle > 1,
         _ => true,
@@ -146,19 +146,25 @@ fn document_family(n: usize) -> Family {
     }
 }
 
-/// A ring of 7: each departure waits for itself and the one before it, with
-/// `count` = 3 also for the one after it.
+/// A ring: each departure waits for itself, with `count` = 2 also for the one before
+/// it, with 3 for the one after it too.
+pub fn ring(random: &mut Random, n: usize, count: usize) -> Case {
+    let mut case = Case::empty(n, 64);
+    for row in 0..n {
+        for column in [row, (row + n - 1) % n, (row + 1) % n].iter().take(count) {
+            case.times[row * n + column] = Some(random.between(60, 1200));
+        }
+    }
+    case
+}
+
+/// Rings of 7.
 fn ring_family(count: usize) -> Family {
     let n = 7;
     let mut random = Random::new(200 + count as u64);
     let mut cases = Vec::new();
     while cases.len() < CASES {
-        let mut case = Case::empty(n, 64);
-        for row in 0..n {
-            for column in [row, (row + n - 1) % n, (row + 1) % n].iter().take(count) {
-                case.times[row * n + column] = Some(random.between(60, 1200));
-            }
-        }
+        let case = ring(&mut random, n, count);
         let case = with_patterns(&mut random, case, cases.len() % 4);
         if of_use(&mut random, &case) {
             cases.push(case);
@@ -176,10 +182,10 @@ fn ring_family(count: usize) -> Family {
 /// of them is empty.
 pub fn zeros(horizon: usize) -> Case {
     let mut case = Case::empty(7, horizon);
-    case.times = [Some(0); 49];
+    case.times[..49].fill(Some(0));
     window(&mut case.start, 7, (1, 0), 1, 1);
     window(&mut case.start, 7, (2, 0), 0, 0);
-    case.target = around(7, &[0; 7], 0, true);
+    case.target = around(7, &[0; DEPARTURES], 0, true);
     case
 }
 
@@ -200,12 +206,13 @@ pub fn one_cycle() -> Vec<Case> {
     let mut cases = Vec::new();
     while cases.len() < 6 {
         let mut case = table(&mut random, 7, 7, (60, 1200));
-        let x = std::array::from_fn(|_| random.between(0, 1200));
+        let mut x = [0; DEPARTURES];
+        x[..7].fill_with(|| random.between(0, 1200));
         let then = image(&case, &x, 1 + cases.len() % 2);
         case.horizon = 1;
         case.start = around(7, &x, 10, true);
         case.target = around(7, &then, 10, true);
-        let verdict = rows::verdict(&case, CAPACITY).0.verdict;
+        let verdict = rows::verdict(&case, capacity(7)).0.verdict;
         if !matches!(verdict, Verdict::Refused(_)) {
             cases.push(case);
         }

@@ -4,6 +4,8 @@ pub mod compare;
 pub mod copying;
 pub mod dropping;
 pub mod families;
+pub mod fifteen;
+pub mod limited;
 pub mod machine;
 pub mod measure;
 pub mod network;
@@ -20,12 +22,14 @@ pub mod zone;
 use evidence::case::Case;
 use evidence::faults;
 
-/// The capacity that the program uses.
-pub const CAPACITY: usize = 128;
+/// The packed case, in the old form where that has a place for it.
+pub fn packed(case: &Case) -> Vec<u8> {
+    case.pack(case.forms()[0])
+}
 
 /// The packed case in hexadecimal digits.
 pub fn hex(case: &Case) -> String {
-    let bytes = case.pack();
+    let bytes = packed(case);
     bytes.iter().map(|byte| format!("{byte:02x}")).collect()
 }
 

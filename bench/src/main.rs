@@ -3,6 +3,7 @@
 //!     bench                        all families, dropping, packing, and z3
 //!     bench WORD...                families whose names have one of the words
 //!     bench dropping               what dropping equal sets saves
+//!     bench fifteen WORD...        families of 15 departures, with a time limit
 //!     bench packing                writing and reading packed cases
 //!     bench z3                     the comparison with z3
 //!     bench compare BEFORE WORD... another build of this program and this one
@@ -10,18 +11,30 @@
 //!     bench slowest SEED STEPS     a search for a slow case
 //!     bench case HEX               one packed case
 //!
-//! `bench turns` and `bench once` are what compare and copying start.
+//! `bench turns`, `bench once` and `bench one` are what compare, copying and fifteen
+//! start.
 
 use bench::families::{self, Family};
-use bench::{compare, copying, dropping, packing, slowest, table, z3};
+use bench::{compare, copying, dropping, fifteen, limited, packing, slowest, table, z3};
 use std::env;
 use std::process::ExitCode;
 
 /// The families whose names have one of the words, or all without any.
-fn chosen(words: &[&str]) -> Vec<Family> {
-    let mut families = families::all();
+fn among(mut families: Vec<Family>, words: &[&str]) -> Vec<Family> {
     let named = |name: &str| words.iter().any(|word| name.contains(word));
     families.retain(|family| words.is_empty() || named(&family.name));
+    families
+}
+
+/// The same of those of up to 7 departures.
+fn chosen(words: &[&str]) -> Vec<Family> {
+    among(families::all(), words)
+}
+
+/// All families.
+fn every() -> Vec<Family> {
+    let mut families = families::all();
+    families.extend(fifteen::all());
     families
 }
 
@@ -34,6 +47,9 @@ fn run(words: &[&str]) -> Result<(), String> {
         ["copying", words @ ..] => {
             copying::print(&chosen(words)).map_err(|error| format!("counting what copies: {error}"))
         }
+        ["fifteen", words @ ..] => limited::print(&among(fifteen::all(), words))
+            .map_err(|error| format!("fifteen departures: {error}")),
+        ["one", version] => limited::one(version),
         ["once"] => copying::once(),
         ["turns"] => compare::turns(),
         ["case", hex] => slowest::one(hex),
@@ -43,13 +59,13 @@ fn run(words: &[&str]) -> Result<(), String> {
             Ok(())
         }
         ["packing"] => {
-            packing::print(&families::all());
+            packing::print(&every());
             Ok(())
         }
         [] => {
             table::print(&families::all());
             dropping::print();
-            packing::print(&families::all());
+            packing::print(&every());
             solver()
         }
         _ => {

@@ -1,9 +1,11 @@
 //! Times of the three versions on one case, taken in turn so that whatever
 //! else the machine does hits all alike.
 
-use crate::{hex, one_by_one, rows, CAPACITY};
+use crate::{hex, one_by_one, rows};
 use evidence::archive::{self, Answer, Verdict};
 use evidence::case::Case;
+use evidence::faults::workspace;
+use evidence::text::capacity;
 use std::hint::black_box;
 use std::time::Instant;
 
@@ -85,13 +87,14 @@ impl<'a> Timed<'a> {
 /// The library on a case, with memory lent to it.
 pub fn library(case: &Case) -> impl FnMut() -> Option<Answer> + '_ {
     let entries = case.entries();
-    let mut work = vec![0; 2 * CAPACITY * (case.n + 1) * (case.n + 1)];
-    move || archive::verdict_entries(case.n, case.horizon, &entries, CAPACITY, &mut work).ok()
+    let zones = capacity(case.n);
+    let mut work = vec![0; workspace(case.n, zones)];
+    move || archive::verdict_entries(case.n, case.horizon, &entries, zones, &mut work).ok()
 }
 
 /// The product's algorithm in plain Rust on a case.
 pub fn plain(case: &Case) -> impl FnMut() -> Option<Answer> + '_ {
-    || Some(rows::verdict(case, CAPACITY).0)
+    || Some(rows::verdict(case, capacity(case.n)).0)
 }
 
 /// Measures a case. All versions must give the same answer; the run ends where
@@ -100,7 +103,7 @@ pub fn measure(case: &Case, limit: u64) -> Measured {
     let versions: [Version; 3] = [
         Box::new(library(case)),
         Box::new(plain(case)),
-        Box::new(|| one_by_one::verdict(case, CAPACITY, limit)),
+        Box::new(|| one_by_one::verdict(case, capacity(case.n), limit)),
     ];
     let mut timed = versions.map(Timed::new);
     let [first, others @ ..] = timed.each_ref().map(|version| version.first);

@@ -2,9 +2,9 @@
 //! taken in turn.
 
 use crate::families::Family;
-use crate::hex;
 use crate::measure::median;
 use crate::table::words;
+use crate::{hex, packed};
 use evidence::archive;
 use evidence::case::Case;
 use std::hint::black_box;
@@ -25,10 +25,11 @@ fn turn(mut call: impl FnMut()) -> f64 {
 
 /// Seconds that reading and writing a case take.
 fn measure(case: &Case) -> [f64; 2] {
-    let bytes = case.pack();
+    let (n, horizon, form) = (case.n, case.horizon, case.forms()[0]);
+    let bytes = packed(case);
     let entries = case.entries();
     let mut out = vec![0; bytes.len()];
-    let written = archive::write_entries(case.n, case.horizon, &entries, &mut out);
+    let written = archive::write_entries(form, n, horizon, &entries, &mut out);
     assert_eq!(written, Ok(Ok(bytes.len())), "{}", hex(case));
     assert_eq!(out, bytes, "{}", hex(case));
     let mut seconds = [Vec::new(), Vec::new()];
@@ -37,7 +38,7 @@ fn measure(case: &Case) -> [f64; 2] {
             black_box(archive::read(black_box(&bytes))).expect("an outcome");
         }));
         seconds[1].push(turn(|| {
-            let written = archive::write_entries(case.n, case.horizon, &entries, &mut out);
+            let written = archive::write_entries(form, n, horizon, &entries, &mut out);
             black_box(written).expect("an outcome").expect("no fault");
         }));
     }

@@ -11,8 +11,13 @@ use crate::zone::{Empty, Zone};
 use evidence::archive::Answer;
 use evidence::case::Case;
 
-/// Sets that are remembered for a row.
-const REMEMBERED: usize = 128;
+/// Sets that are remembered for a row of n departures, as many as in the library.
+fn remembered(n: usize) -> usize {
+    match n {
+        ..=7 => 128,
+        _ => 32,
+    }
+}
 
 /// What a search cost, in numbers that are the same on every machine.
 #[derive(Clone, Copy, Debug, Default, PartialEq, Eq)]
@@ -27,10 +32,18 @@ pub struct Cost {
     pub forgotten: u64,
 }
 
+/// What a search may use: sets that it remembers for a row, and constraints that
+/// change a set.
+#[derive(Clone, Copy)]
+struct Effort {
+    remembered: usize,
+    changes: u64,
+}
+
 /// The sets met at each row but the last, for the present zone.
 struct Rows<const M: usize> {
     met: Vec<Sets<M>>,
-    remembered: usize,
+    effort: Effort,
     cost: Cost,
 }
 
@@ -39,7 +52,7 @@ struct Task<'a, const M: usize> {
     table: &'a Table<M>,
     zone: &'a Zone<M>,
     columns: [usize; M],
-    remembered: usize,
+    effort: Effort,
     cost: &'a mut Cost,
 }
 
@@ -65,6 +78,9 @@ impl<const M: usize> Task<'_, M> {
         let Some((here, later)) = met.split_first_mut() else {
             return self.last_row(kept, row, set);
         };
+        if self.cost.changes > self.effort.changes {
+            return Err(Stop::Steps);
+        }
         for column in self.table.columns(row) {
             let built = self.add_row(here.add(set), row, column);
             if here.settle(built) {
@@ -87,7 +103,7 @@ impl<const M: usize> Task<'_, M> {
 
     /// Remembers the last set of a table, if there is room.
     fn remember(&mut self, met: &mut Sets<M>) {
-        if met.all().len() > self.remembered {
+        if met.all().len() > self.effort.remembered {
             met.drop_last();
             self.cost.forgotten += 1;
         }
@@ -101,7 +117,7 @@ impl<const M: usize> Lister<M> for Rows<M> {
             table,
             zone,
             columns: [0; M],
-            remembered: self.remembered,
+            effort: self.effort,
             cost: &mut self.cost,
         };
         task.rows_from(&mut self.met, kept, 1, &Zone::everything())
@@ -109,24 +125,38 @@ impl<const M: usize> Lister<M> for Rows<M> {
 }
 
 /// One place more for each row than sets are remembered.
-fn sized<const M: usize>(case: &Case, capacity: usize, remembered: usize) -> (Answer, Cost) {
+fn sized<const M: usize>(case: &Case, capacity: usize, effort: Effort) -> Option<(Answer, Cost)> {
     let mut rows: Rows<M> = Rows {
-        met: (2..M).map(|_| Sets::new(remembered + 1)).collect(),
-        remembered,
+        met: (2..M).map(|_| Sets::new(effort.remembered + 1)).collect(),
+        effort,
         cost: Cost::default(),
     };
-    let (answer, compared) = search(case, capacity, &mut rows).expect("no limit on steps");
+    let (answer, compared) = search(case, capacity, &mut rows)?;
     let met: u64 = rows.met.iter().map(|sets| sets.compared).sum();
     rows.cost.compared = met + compared;
-    (answer, rows.cost)
+    Some((answer, rows.cost))
 }
 
-/// The answer on a case within the limits, and what it cost.
+/// The answer on a case within the limits, and what it cost, or none if more than
+/// so many constraints change a set.
+pub fn within(case: &Case, capacity: usize, changes: u64) -> Option<(Answer, Cost)> {
+    let effort = Effort {
+        remembered: remembered(case.n),
+        changes,
+    };
+    for_size!(case.n, sized(case, capacity, effort))
+}
+
+/// The same without a limit.
 pub fn verdict(case: &Case, capacity: usize) -> (Answer, Cost) {
-    for_size!(case.n, sized(case, capacity, REMEMBERED))
+    within(case, capacity, u64::MAX).expect("no limit on steps")
 }
 
 /// The same without dropping sets that were met before.
 pub fn without_dropping(case: &Case, capacity: usize) -> (Answer, Cost) {
-    for_size!(case.n, sized(case, capacity, 0))
+    let effort = Effort {
+        remembered: 0,
+        changes: u64::MAX,
+    };
+    for_size!(case.n, sized(case, capacity, effort)).expect("no limit on steps")
 }

@@ -20,6 +20,14 @@ macro_rules! for_size {
             5 => $function::<6>($($argument),*),
             6 => $function::<7>($($argument),*),
             7 => $function::<8>($($argument),*),
+            8 => $function::<9>($($argument),*),
+            9 => $function::<10>($($argument),*),
+            10 => $function::<11>($($argument),*),
+            11 => $function::<12>($($argument),*),
+            12 => $function::<13>($($argument),*),
+            13 => $function::<14>($($argument),*),
+            14 => $function::<15>($($argument),*),
+            15 => $function::<16>($($argument),*),
             n => panic!("no case of {n} departures is within the limits"),
         }
     };

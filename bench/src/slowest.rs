@@ -5,9 +5,10 @@
 use crate::measure::measure;
 use crate::rows::{self, Cost};
 use crate::table::words;
-use crate::{hex, of_hex, CAPACITY};
+use crate::{hex, of_hex};
 use evidence::case::{most, pair, Case, Pattern};
 use evidence::random::Random;
+use evidence::text::capacity;
 
 const N: usize = 7;
 
@@ -39,7 +40,7 @@ fn without_start() -> Case {
 /// A table of times from 0 to `size`, and a target of one point.
 fn even(random: &mut Random, size: i64) -> Case {
     let mut case = without_start();
-    for time in case.times.iter_mut() {
+    for time in &mut case.times[..N * N] {
         *time = Some(random.between(0, size));
     }
     for i in 1..=N {
@@ -123,7 +124,7 @@ fn changed(random: &mut Random, case: &Case) -> Case {
 
 /// The slowest case met from one beginning, and its weight.
 fn climb(random: &mut Random, beginning: Case, steps: usize) -> (u64, Case) {
-    let weigh = |case: &Case| weight(rows::verdict(case, CAPACITY).1);
+    let weigh = |case: &Case| weight(rows::verdict(case, capacity(N)).1);
     let mut case = beginning;
     let mut most = weigh(&case);
     for _ in 0..steps {
@@ -139,7 +140,7 @@ fn climb(random: &mut Random, beginning: Case, steps: usize) -> (u64, Case) {
 /// Prints a case, what it costs and how long it takes.
 fn print(case: &Case) {
     println!("{}", hex(case));
-    let (_, cost) = rows::verdict(case, CAPACITY);
+    let (_, cost) = rows::verdict(case, capacity(case.n));
     println!("{cost:?}");
     let measured = measure(case, 0);
     let (library, rows) = (words(measured.library), words(measured.rows));
@@ -156,7 +157,7 @@ fn number<T: std::str::FromStr>(text: &str) -> Result<T, String> {
 /// The slower of a case over 64 cycles and what was found before.
 fn slower(found: Option<(u64, Case)>, mut case: Case) -> Option<(u64, Case)> {
     case.horizon = 64;
-    let weight = weight(rows::verdict(&case, CAPACITY).1);
+    let weight = weight(rows::verdict(&case, capacity(N)).1);
     match found {
         Some((most, _)) if most > weight => found,
         _ => Some((weight, case)),

@@ -3,9 +3,11 @@
 use crate::families::one_cycle;
 use crate::measure::median;
 use crate::table::words;
-use crate::{hex, CAPACITY};
+use crate::{hex, packed};
 use evidence::archive::{self, Verdict};
 use evidence::case::{pair, Case, Pattern};
+use evidence::faults::workspace;
+use evidence::text::capacity;
 use std::env;
 use std::fs::{self, File};
 use std::io::{self, Write};
@@ -101,8 +103,9 @@ fn run(program: &Path, argument: Option<&Path>, input: &Path) -> io::Result<(f64
 
 /// Whether the target is met at cycle 1, by the library.
 fn met(case: &Case) -> bool {
-    let mut work = vec![0; 2 * CAPACITY * 64];
-    match archive::verdict(&case.pack(), CAPACITY, &mut work).map(|answer| answer.verdict) {
+    let zones = capacity(case.n);
+    let mut work = vec![0; workspace(case.n, zones)];
+    match archive::verdict(&packed(case), zones, &mut work).map(|answer| answer.verdict) {
         Ok(Verdict::Reached { cycle: 1 }) => true,
         Ok(Verdict::Clear { horizon: 1 } | Verdict::Never) => false,
         other => panic!("{other:?} on {}", hex(case)),
@@ -115,16 +118,16 @@ fn write(path: &Path, bytes: &[u8]) -> io::Result<()> {
 
 /// The median seconds of the program and of z3 on a case.
 fn compare(case: &Case, folder: &Path) -> io::Result<(f64, f64)> {
-    let (packed, smt) = (folder.join("case"), folder.join("case.smt2"));
-    write(&packed, &case.pack())?;
+    let (file, smt) = (folder.join("case"), folder.join("case.smt2"));
+    write(&file, &packed(case))?;
     write(&smt, formula(case).as_bytes())?;
     let expected = met(case);
     let (mut ours, mut theirs) = (Vec::new(), Vec::new());
     for _ in 0..ROUNDS {
-        let (took, text) = run(&program(), None, &packed)?;
+        let (took, text) = run(&program(), None, &file)?;
         assert_eq!(text.starts_with("reached 1\n"), expected, "{}", hex(case));
         ours.push(took);
-        let (took, text) = run(Path::new("z3"), Some(&smt), &packed)?;
+        let (took, text) = run(Path::new("z3"), Some(&smt), &file)?;
         let said = if expected { "sat\n" } else { "unsat\n" };
         assert_eq!(text, said, "z3 on {}", hex(case));
         theirs.push(took);

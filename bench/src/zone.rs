@@ -1,8 +1,11 @@
 //! Zones as closed difference-bound matrices. M is n + 1; index 0 is the
 //! clock's zero.
 
-/// Stands for a bound that is not there. Finite bounds stay below 500,000,000
-/// in size for every case, so sums of three of them fit.
+use evidence::case::{Times, DEPARTURES};
+
+/// Stands for a bound that is not there. Finite bounds stay below 714,000,000 in
+/// size for every case, and what constrains a set below 180,000,000, so the sum of
+/// two bounds and a constraint fits.
 pub const NONE: i32 = i32::MAX;
 
 /// Where the times of a set do not exist.
@@ -79,8 +82,8 @@ impl<const M: usize> Zone<M> {
 
     /// The start picked, and the set brought down to it: for each departure in
     /// turn the greatest time; if there is no greatest, the least; if neither, 0.
-    pub fn pick(&mut self) -> Result<[i64; 7], Empty> {
-        let mut times = [0; 7];
+    pub fn pick(&mut self) -> Result<Times, Empty> {
+        let mut times = [0; DEPARTURES];
         for i in 1..M {
             let time = match (self.bound(0, i), self.bound(i, 0)) {
                 (_, Some(greatest)) => greatest,

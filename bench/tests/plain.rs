@@ -1,18 +1,20 @@
 //! A test of the benchmark: the plain versions against the brute search and
 //! the archive on random cases.
 
-use bench::{families, hex, one_by_one, rows, CAPACITY};
+use bench::{families, hex, one_by_one, packed, rows};
 use evidence::archive;
 use evidence::case::Case;
+use evidence::random::wide::wide_trial;
 use evidence::random::{crowded_trial, dense_trial, trial, Random, Trial};
 use evidence::selections::search;
+use evidence::text::capacity;
 
 /// Compares all four answers on one case and returns the kind of the answer.
 fn compare(case: &Case, capacity: usize, words: &str) -> usize {
     let expected = search(case, capacity).answer;
     let m = case.n + 1;
     let mut work = vec![0; 2 * capacity * m * m];
-    let by_archive = archive::verdict(&case.pack(), capacity, &mut work);
+    let by_archive = archive::verdict(&packed(case), capacity, &mut work);
     assert_eq!(by_archive, Ok(expected), "archive, {words}");
     let (by_rows, _) = rows::verdict(case, capacity);
     assert_eq!(by_rows, expected, "rows one by one, {words}");
@@ -43,6 +45,11 @@ fn on_cases_of_all_sizes() {
 }
 
 #[test]
+fn on_many_departures() {
+    compare_all(0..2000, 20, wide_trial);
+}
+
+#[test]
 fn on_tables_without_blanks() {
     compare_all(0..60, 0, |random| {
         let n = random.between(5, 6) as usize;
@@ -65,13 +72,10 @@ fn on_long_lists() {
 fn with_and_without_dropping() {
     let mut forgotten = 0;
     for family in families::all() {
-        let others = family
-            .cases
-            .iter()
-            .filter(|case| case.times != [Some(0); 49]);
-        for case in others {
-            let (with, cost) = rows::verdict(case, CAPACITY);
-            let (without, _) = rows::without_dropping(case, CAPACITY);
+        let zeros = |case: &Case| case.times[..case.n * case.n] == [Some(0); 49];
+        for case in family.cases.iter().filter(|case| !zeros(case)) {
+            let (with, cost) = rows::verdict(case, capacity(case.n));
+            let (without, _) = rows::without_dropping(case, capacity(case.n));
             assert_eq!(with, without, "{}", hex(case));
             forgotten += cost.forgotten;
         }

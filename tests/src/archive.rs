@@ -1,7 +1,7 @@
 //! The archive's functions behind safe ones. A product that embeds the archive
 //! can copy this file.
 
-use crate::case::{Case, Entries, Times, ENTRIES};
+use crate::case::{Case, Entries, Form, Times, DEPARTURES, ENTRIES};
 
 /// A fault's number, 1 to 16, and what is returned with it.
 #[derive(Clone, Copy, Debug, PartialEq, Eq)]
@@ -70,7 +70,9 @@ pub struct Unknown {
     pub value: usize,
 }
 
+// The functions by the header's names, and the names that it gives the linker.
 extern "C" {
+    #[link_name = "tramcheck_verdict_15"]
     fn tramcheck_verdict(
         bytes: *const u8,
         length: usize,
@@ -82,6 +84,7 @@ extern "C" {
         parts: *mut usize,
         start: *mut i64,
     ) -> u32;
+    #[link_name = "tramcheck_verdict_unpacked_15"]
     fn tramcheck_verdict_unpacked(
         n: usize,
         horizon: usize,
@@ -96,6 +99,7 @@ extern "C" {
         parts: *mut usize,
         start: *mut i64,
     ) -> u32;
+    #[link_name = "tramcheck_run_15"]
     fn tramcheck_run(
         n: usize,
         present: *const u8,
@@ -106,6 +110,7 @@ extern "C" {
         value: *mut usize,
         times: *mut i64,
     ) -> u32;
+    #[link_name = "tramcheck_run_parts_15"]
     fn tramcheck_run_parts(
         n: usize,
         present: *const u8,
@@ -118,6 +123,7 @@ extern "C" {
         parts: *mut usize,
         times: *mut i64,
     ) -> u32;
+    #[link_name = "tramcheck_write_15"]
     fn tramcheck_write(
         n: usize,
         horizon: usize,
@@ -129,6 +135,19 @@ extern "C" {
         fault: *mut usize,
         value: *mut usize,
     ) -> u32;
+    #[link_name = "tramcheck_write_wide_15"]
+    fn tramcheck_write_wide(
+        n: usize,
+        horizon: usize,
+        present: *const u8,
+        strict: *const u8,
+        values: *const i64,
+        out: *mut u8,
+        out_length: usize,
+        fault: *mut usize,
+        value: *mut usize,
+    ) -> u32;
+    #[link_name = "tramcheck_read_15"]
     fn tramcheck_read(
         bytes: *const u8,
         length: usize,
@@ -140,6 +159,7 @@ extern "C" {
         fault: *mut usize,
         value: *mut usize,
     ) -> u32;
+    #[link_name = "tramcheck_preview_15"]
     fn tramcheck_preview(
         n: usize,
         horizon: usize,
@@ -158,6 +178,7 @@ extern "C" {
         parts: *mut usize,
         start: *mut i64,
     ) -> u32;
+    #[link_name = "tramcheck_commit_15"]
     fn tramcheck_commit(
         n: usize,
         horizon: usize,
@@ -188,7 +209,7 @@ impl Results {
             fault: usize::MAX,
             value: usize::MAX,
             parts: usize::MAX,
-            times: [i64::MIN; 7],
+            times: [i64::MIN; DEPARTURES],
         }
     }
 
@@ -238,8 +259,8 @@ impl Results {
     }
 }
 
-/// The verdict on a packed case, with room for `capacity` zones. `work` must
-/// hold 2 * capacity * (n + 1) * (n + 1) numbers; more is allowed.
+/// The verdict on a packed case of either form, with room for `capacity` zones.
+/// `work` must hold 2 * capacity * (n + 1) * (n + 1) numbers; more is allowed.
 pub fn verdict(bytes: &[u8], capacity: usize, work: &mut [i32]) -> Result<Answer, Unknown> {
     let mut results = Results::new();
     // Each pointer comes from a slice, an array or a field that lives to the
@@ -274,7 +295,7 @@ pub fn verdict_entries(
     work: &mut [i32],
 ) -> Result<Answer, Unknown> {
     let mut results = Results::new();
-    // The pointers are good as in `verdict`; each array has 161 places.
+    // The pointers are good as in `verdict`; each array has 705 places.
     let kind = unsafe {
         tramcheck_verdict_unpacked(
             n,
@@ -307,7 +328,7 @@ pub fn run_entries(
     cycle: usize,
 ) -> Result<Run, Unknown> {
     let mut results = Results::new();
-    // The pointers are good as in `verdict`; both lists of times have 7.
+    // The pointers are good as in `verdict`; both lists of times have 15.
     let kind = unsafe {
         tramcheck_run(
             n,
@@ -337,7 +358,7 @@ pub fn run_parts_entries(
     cycle: usize,
 ) -> Result<RunInParts, Unknown> {
     let mut results = Results::new();
-    // The pointers are good as in `verdict`; both lists of times have 7.
+    // The pointers are good as in `verdict`; both lists of times have 15.
     let kind = unsafe {
         tramcheck_run_parts(
             n,
@@ -357,24 +378,29 @@ pub fn run_parts_entries(
     Ok(RunInParts { run, parts })
 }
 
-/// Writes a case in packed form to the front of `out`: how many bytes, or the
-/// fault, 16 for a strict bound. With an `out` of length 0 fault 14 tells how
-/// many are needed.
-pub fn write(case: &Case, out: &mut [u8]) -> Result<Result<usize, Fault>, Unknown> {
-    write_entries(case.n, case.horizon, &case.entries(), out)
+/// Writes a case in a packed form to the front of `out`: how many bytes, or the
+/// fault, 16 where the old form has no place for it. With an `out` of length 0
+/// fault 14 tells how many are needed.
+pub fn write(form: Form, case: &Case, out: &mut [u8]) -> Result<Result<usize, Fault>, Unknown> {
+    write_entries(form, case.n, case.horizon, &case.entries(), out)
 }
 
 /// The same for a case in the layout that the archive reads.
 pub fn write_entries(
+    form: Form,
     n: usize,
     horizon: usize,
     entries: &Entries,
     out: &mut [u8],
 ) -> Result<Result<usize, Fault>, Unknown> {
+    let write = match form {
+        Form::Old => tramcheck_write,
+        Form::Wide => tramcheck_write_wide,
+    };
     let mut results = Results::new();
-    // The pointers are good as in `verdict`; each array has 161 places.
+    // The pointers are good as in `verdict`; each array has 705 places.
     let kind = unsafe {
-        tramcheck_write(
+        write(
             n,
             horizon,
             entries.present.as_ptr(),
@@ -389,7 +415,7 @@ pub fn write_entries(
     results.bytes(kind)
 }
 
-/// Reads a packed case.
+/// Reads a packed case of either form.
 pub fn read(bytes: &[u8]) -> Result<Reading, Unknown> {
     let mut results = Results::new();
     let (mut n, mut horizon) = (usize::MAX, usize::MAX);
@@ -398,7 +424,7 @@ pub fn read(bytes: &[u8]) -> Result<Reading, Unknown> {
         strict: [u8::MAX; ENTRIES],
         values: [i64::MIN; ENTRIES],
     };
-    // The pointers are good as in `verdict`; each array has 161 places.
+    // The pointers are good as in `verdict`; each array has 705 places.
     let kind = unsafe {
         tramcheck_read(
             bytes.as_ptr(),
@@ -431,7 +457,7 @@ pub fn preview(
     work: &mut [i32],
 ) -> Result<Answer, Unknown> {
     let mut results = Results::new();
-    // The pointers are good as in `verdict`; each array has 161 places.
+    // The pointers are good as in `verdict`; each array has 705 places.
     let kind = unsafe {
         tramcheck_preview(
             n,
@@ -464,7 +490,7 @@ pub fn commit(
     change: &Change,
 ) -> Result<Result<(), Fault>, Unknown> {
     let mut results = Results::new();
-    // The pointers are good as in `verdict`; each array has 161 places.
+    // The pointers are good as in `verdict`; each array has 705 places.
     let kind = unsafe {
         tramcheck_commit(
             n,

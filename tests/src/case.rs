@@ -1,8 +1,21 @@
 //! An unpacked case, the layout in which the archive reads it, and its
 //! packing into bytes.
 
+/// The most departures.
+pub const DEPARTURES: usize = 15;
+
+/// The most times of a table, and bounds of a pattern.
+pub const TIMES: usize = DEPARTURES * DEPARTURES;
+pub const BOUNDS: usize = DEPARTURES * (DEPARTURES + 1);
+
+/// Where the entries of start and target begin in the layout that the archive
+/// reads, behind those of the table, and how many entries there are.
+pub const START: usize = TIMES;
+pub const TARGET: usize = START + BOUNDS;
+pub const ENTRIES: usize = TARGET + BOUNDS;
+
 /// Times of the departures; those beyond n are 0 wherever they are handed back.
-pub type Times = [i64; 7];
+pub type Times = [i64; DEPARTURES];
 
 /// A bound on x(i) - x(j): at most the value, or less than it if strict.
 #[derive(Clone, Copy, Debug, PartialEq, Eq)]
@@ -24,10 +37,26 @@ pub const fn less(value: i64) -> Bound {
 }
 
 /// A pattern's bounds: pairs i, j from 0 to n, i not j, by i, then j.
-pub type Pattern = [Option<Bound>; 56];
+pub type Pattern = [Option<Bound>; BOUNDS];
 
-/// Entries that the archive reads: 49 times and twice 56 bounds.
-pub const ENTRIES: usize = 161;
+/// The two packed forms.
+#[derive(Clone, Copy, Debug, PartialEq, Eq)]
+pub enum Form {
+    /// For up to 7 departures, without marks.
+    Old,
+    /// For up to 15 departures, with a mark for each bound.
+    Wide,
+}
+
+impl Form {
+    /// The most departures.
+    pub fn departures(self) -> usize {
+        match self {
+            Form::Old => 7,
+            Form::Wide => DEPARTURES,
+        }
+    }
+}
 
 /// A case. Entries stand in packed order for this n, from place 0 on; what
 /// stands beyond them has no meaning.
@@ -35,7 +64,7 @@ pub const ENTRIES: usize = 161;
 pub struct Case {
     pub n: usize,
     pub horizon: usize,
-    pub times: [Option<i64>; 49],
+    pub times: [Option<i64>; TIMES],
     pub start: Pattern,
     pub target: Pattern,
 }
@@ -61,9 +90,9 @@ impl Case {
         Case {
             n,
             horizon,
-            times: [None; 49],
-            start: [None; 56],
-            target: [None; 56],
+            times: [None; TIMES],
+            start: [None; BOUNDS],
+            target: [None; BOUNDS],
         }
     }
 
@@ -73,7 +102,7 @@ impl Case {
     }
 
     /// The bounds that count, those of the start before those of the target. n
-    /// must be below 8.
+    /// must be below 16.
     pub fn bounds(&self) -> impl Iterator<Item = &Option<Bound>> {
         let count = self.n * (self.n + 1);
         self.start[..count].iter().chain(&self.target[..count])
@@ -98,19 +127,37 @@ impl Case {
         entries
     }
 
-    /// The packed case. n must be below 8, N from 1 to 64, and no bound that
-    /// counts may be strict; a value too wide for its field loses its upper bits.
-    pub fn pack(&self) -> Vec<u8> {
-        let mut writer = Writer::default();
-        writer.number(self.n as i64, 3);
-        writer.number(self.horizon as i64 - 1, 6);
-        for &entry in &self.times[..self.n * self.n] {
-            writer.entry(entry, 18);
+    /// Whether a bound that counts is strict.
+    pub fn marked(&self) -> bool {
+        self.bounds().flatten().any(|bound| bound.strict)
+    }
+
+    /// The forms that have a place for the case.
+    pub fn forms(&self) -> &'static [Form] {
+        if self.n <= Form::Old.departures() && !self.marked() {
+            &[Form::Old, Form::Wide]
+        } else {
+            &[Form::Wide]
         }
-        for entry in self.bounds() {
-            let strict = entry.is_some_and(|bound| bound.strict);
-            assert!(!strict, "a packed case has no place for a mark: {self:?}");
-            writer.entry(entry.map(|bound| bound.value), 21);
+    }
+
+    /// The packed case, in a form that has a place for it. N must be from 1 to
+    /// 64; a value too wide for its field loses its upper bits.
+    pub fn pack(&self, form: Form) -> Vec<u8> {
+        assert!(self.forms().contains(&form), "no place: {form:?}, {self:?}");
+        let mut writer = Writer::default();
+        let (zeros, width) = match form {
+            Form::Old => (0, 3),
+            Form::Wide => (3, 4),
+        };
+        writer.number(0, zeros);
+        writer.number(self.n as i64, width);
+        writer.number(self.horizon as i64 - 1, 6);
+        for &time in &self.times[..self.n * self.n] {
+            writer.time(time);
+        }
+        for &bound in self.bounds() {
+            writer.bound(form, bound);
         }
         writer.bytes()
     }
@@ -131,10 +178,21 @@ impl Writer {
     }
 
     /// A presence bit and, if it is 1, the value.
-    fn entry(&mut self, entry: Option<i64>, width: usize) {
-        self.bits.push(entry.is_some());
-        if let Some(value) = entry {
-            self.number(value, width);
+    fn time(&mut self, time: Option<i64>) {
+        self.bits.push(time.is_some());
+        if let Some(value) = time {
+            self.number(value, 18);
+        }
+    }
+
+    /// The same; in the wide form the mark stands before the value.
+    fn bound(&mut self, form: Form, bound: Option<Bound>) {
+        self.bits.push(bound.is_some());
+        if let Some(Bound { value, strict }) = bound {
+            if form == Form::Wide {
+                self.bits.push(strict);
+            }
+            self.number(value, 21);
         }
     }
 

@@ -2,7 +2,7 @@
 //! workspace and looking at it afterwards, and naming a case that failed.
 
 use crate::archive::{Answer, Fault, Verdict};
-use crate::case::{Case, Entries, ENTRIES};
+use crate::case::{Case, Entries, BOUNDS, DEPARTURES, ENTRIES, START, TARGET, TIMES};
 use crate::faults;
 use crate::random::Random;
 use crate::selections::{search, without_start};
@@ -112,17 +112,17 @@ pub fn noisy(random: &mut Random, case: &Case) -> Entries {
     let mut marks = random.apart();
     let mut entries = case.entries();
     let (times, bounds) = match case.n {
-        1..=7 => (case.n * case.n, case.n * (case.n + 1)),
-        _ => (49, 56),
+        1..=DEPARTURES => (case.n * case.n, case.n * (case.n + 1)),
+        _ => (TIMES, BOUNDS),
     };
     for place in 0..ENTRIES {
         let used = match place {
-            0..=48 => place < times,
-            49..=104 => place - 49 < bounds,
-            _ => place - 105 < bounds,
+            ..START => place < times,
+            START..TARGET => place - START < bounds,
+            TARGET.. => place - TARGET < bounds,
         };
         let present = used && entries.present[place] != 0;
-        entries.strict[place] = match (present && place >= 49, entries.strict[place]) {
+        entries.strict[place] = match (present && place >= START, entries.strict[place]) {
             (false, _) => marks.between(0, 255) as u8,
             (true, 0) => 0,
             (true, _) => marks.between(1, 255) as u8,

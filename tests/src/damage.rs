@@ -1,9 +1,9 @@
 //! Random damage to packed cases, unpacked cases, runs and changes.
 
 use crate::archive::Change;
-use crate::case::{Bound, Case, Times};
+use crate::case::{Bound, Case, Form, Times, DEPARTURES};
 use crate::faults;
-use crate::random::{bearable, trial, Draw, Random, Trial};
+use crate::random::{bearable, Draw, Random, Trial};
 
 /// A call on packed bytes.
 pub struct PackedCall {
@@ -53,7 +53,7 @@ fn put(random: &mut Random, bounds: &mut [Option<Bound>], value: i64) {
     *bound = Some(Bound { value, strict });
 }
 
-/// Puts a time, a bound or an empty row into a case with n from 1 to 7.
+/// Puts a time, a bound or an empty row into a case with n from 1 to 15.
 fn damage_values(random: &mut Random, case: &mut Case) {
     let n = case.n;
     match random.below(4) {
@@ -74,7 +74,8 @@ fn damage_values(random: &mut Random, case: &mut Case) {
 }
 
 /// Damages bytes: flipped bits, a cut, more bytes, a set bit in the last
-/// byte, n = 0, or other bytes altogether.
+/// byte, three zero bits and perhaps n = 0 in the wide field, or other bytes
+/// altogether.
 fn damage_bytes(random: &mut Random, bytes: &mut Vec<u8>) {
     match random.below(7) {
         0 | 1 => {
@@ -98,7 +99,7 @@ fn damage_bytes(random: &mut Random, bytes: &mut Vec<u8>) {
         }
         5 => {
             if let Some(first) = bytes.first_mut() {
-                *first &= 31;
+                *first &= random.one_of(&[31, 1]);
             }
         }
         _ => {
@@ -114,7 +115,7 @@ fn lent(random: &mut Random, n: usize, good: usize) -> (usize, usize) {
         0 => random.one_of(&[0, 4097, 5000, usize::MAX, 1 << 63, 1 << 61]),
         _ => good,
     };
-    let exact = faults::workspace(n.min(7), capacity.min(4097));
+    let exact = faults::workspace(n.min(DEPARTURES), capacity.min(4097));
     let length = match random.below(8) {
         0 => exact.saturating_sub(1),
         1 => random.below(exact + 1),
@@ -134,14 +135,15 @@ fn good_capacity(random: &mut Random, case: &Case, given: usize) -> Option<usize
     bearable(case, given)
 }
 
-/// A packed call with up to two kinds of damage.
-pub fn packed(random: &mut Random) -> PackedCall {
+/// A packed call with up to two kinds of damage. The form must have a place for
+/// the cases drawn.
+pub fn packed(random: &mut Random, form: Form, draw: Draw) -> PackedCall {
     loop {
-        let mut trial = trial(random);
+        let mut trial = draw(random);
         for _ in 0..random.below(3) {
             damage_values(random, &mut trial.case);
         }
-        let mut bytes = trial.case.pack();
+        let mut bytes = trial.case.pack(form);
         for _ in 0..random.below(3) {
             damage_bytes(random, &mut bytes);
         }
@@ -169,8 +171,8 @@ fn far(random: &mut Random, limit: i64) -> i64 {
 
 /// Damages an unpacked case, n and N included.
 fn damage_case(random: &mut Random, case: &mut Case) {
-    let n = case.n.clamp(1, 7);
-    let huge = [0, 8, 9, 255, 256, 257, 1 << 32, (1 << 32) + 1, usize::MAX];
+    let n = case.n.clamp(1, DEPARTURES);
+    let huge = [0, 16, 17, 255, 256, 257, 1 << 32, (1 << 32) + 1, usize::MAX];
     match random.below(6) {
         0 => case.n = random.one_of(&huge),
         1 => case.horizon = random.one_of(&[0, 64, 65, 255, 257, (1 << 32) + 1, usize::MAX]),
@@ -215,7 +217,7 @@ pub fn unpacked(random: &mut Random, draw: Draw) -> UnpackedCall {
 /// A row or a column, sometimes outside the table.
 fn line(random: &mut Random, n: usize) -> usize {
     match random.below(16) {
-        0 => random.one_of(&[0, n + 1, 8, 257, (1 << 32) + 1, usize::MAX]),
+        0 => random.one_of(&[0, n + 1, 16, 257, (1 << 32) + 1, usize::MAX]),
         _ => 1 + random.below(n),
     }
 }
@@ -246,7 +248,7 @@ pub fn changed(random: &mut Random, draw: Draw) -> ChangeCall {
             work_length: faults::workspace(case.n, capacity) + random.below(3),
         }
     };
-    let change = change(random, call.case.n.clamp(1, 7));
+    let change = change(random, call.case.n.clamp(1, DEPARTURES));
     ChangeCall { call, change }
 }
 
@@ -263,7 +265,7 @@ pub fn run(random: &mut Random, draw: Draw) -> RunCall {
         _ => random.below(65),
     };
     let limit: i64 = 1_000_000_000_000;
-    let mut start = [0; 7];
+    let mut start = [0; DEPARTURES];
     for time in &mut start {
         *time = match random.below(12) {
             0 => random.one_of(&[limit + 1, -limit - 1, i64::MIN, i64::MAX, i64::MIN + 1]),

@@ -1,7 +1,7 @@
 //! Brute search 1: the starts of a box, put forward step by step. Times are
 //! whole seconds, or whole numbers of parts of a second on a case in parts.
 
-use crate::case::{pair, Bound, Case, Pattern, Times};
+use crate::case::{pair, Bound, Case, Pattern, Times, DEPARTURES};
 use std::cmp::Reverse;
 
 /// The case with times and bounds in parts of a second.
@@ -31,7 +31,7 @@ pub fn tried_parts(n: usize) -> impl Iterator<Item = usize> {
 
 /// The times of the next cycle.
 pub fn step(case: &Case, x: &Times) -> Times {
-    let mut next = [0; 7];
+    let mut next = [0; DEPARTURES];
     for (i, time) in next.iter_mut().enumerate().take(case.n) {
         let sums = (0..case.n).filter_map(|j| case.time(i, j).map(|a| x[j] + a));
         *time = sums.max().expect("every row holds a time");
@@ -79,7 +79,7 @@ pub fn leads(case: &Case, x: &Times, cycle: usize) -> bool {
 /// All starts at most `radius` away from a centre in each departure, the
 /// first departure changing slowest.
 pub fn starts(n: usize, centre: &Times, radius: i64) -> Vec<Times> {
-    let mut all = vec![[0; 7]];
+    let mut all = vec![[0; DEPARTURES]];
     for departure in 0..n {
         let mut longer = Vec::new();
         for start in &all {
@@ -95,8 +95,8 @@ pub fn starts(n: usize, centre: &Times, radius: i64) -> Vec<Times> {
 }
 
 /// In each row the lowest column that attains the largest sum.
-fn columns(case: &Case, x: &Times) -> [usize; 7] {
-    let mut columns = [0; 7];
+fn columns(case: &Case, x: &Times) -> [usize; DEPARTURES] {
+    let mut columns = [0; DEPARTURES];
     for (i, column) in columns.iter_mut().enumerate().take(case.n) {
         let sum = |j: &usize| case.time(i, *j).map(|a| x[*j] + a);
         // The last of equal sums is taken.
@@ -108,7 +108,7 @@ fn columns(case: &Case, x: &Times) -> [usize; 7] {
 /// The columns of each cycle, the last cycle first. Of the starts that lead into
 /// the target, those in the first zone of list `cycles` that meets the start
 /// pattern are the ones with the least word.
-fn word(case: &Case, x: &Times, cycles: usize) -> Vec<[usize; 7]> {
+fn word(case: &Case, x: &Times, cycles: usize) -> Vec<[usize; DEPARTURES]> {
     let mut times = *x;
     let mut word = Vec::new();
     for _ in 0..cycles {

@@ -1,7 +1,7 @@
 //! The faults, in the order in which they are judged.
 
 use crate::archive::{Change, Fault};
-use crate::case::{most, Bound, Case, Times};
+use crate::case::{Bound, Case, Form, Times, DEPARTURES};
 
 fn fault(number: usize, returned: usize) -> Fault {
     Fault { number, returned }
@@ -47,15 +47,37 @@ impl Reader<'_> {
         })
     }
 
+    /// The form and n. Three zero bits begin the wide form.
+    fn departures(&mut self) -> Result<(Form, usize), Fault> {
+        let old = self.number(3).ok_or(fault(1, 0))?;
+        if old > 0 {
+            return Ok((Form::Old, old as usize));
+        }
+        match self.number(4).ok_or(fault(1, 3))? {
+            0 => Err(fault(2, 0)),
+            n => Ok((Form::Wide, n as usize)),
+        }
+    }
+
     /// A presence bit and, if it is 1, a value; they form one field.
-    fn entry(&mut self, width: usize) -> Result<Option<i64>, Fault> {
+    fn entry<T>(&mut self, value: impl Fn(&mut Self) -> Option<T>) -> Result<Option<T>, Fault> {
         let place = self.place;
         let field = match self.bit() {
-            Some(true) => self.signed(width).map(Some),
+            Some(true) => value(self).map(Some),
             Some(false) => Some(None),
             None => None,
         };
         field.ok_or(fault(1, place))
+    }
+
+    /// What follows the presence bit of a bound: in the wide form a mark first.
+    fn bound(&mut self, form: Form) -> Option<Bound> {
+        let strict = match form {
+            Form::Old => false,
+            Form::Wide => self.bit()?,
+        };
+        let value = self.signed(21)?;
+        Some(Bound { value, strict })
     }
 
     /// The table's times, each judged as it is read, each row after its last.
@@ -65,7 +87,7 @@ impl Reader<'_> {
             let mut any = false;
             for column in 0..case.n {
                 let place = self.place;
-                let time = self.entry(18)?;
+                let time = self.entry(|reader| reader.signed(18))?;
                 if time.is_some_and(|t| !(-86_400..=86_400).contains(&t)) {
                     return Err(fault(4, place));
                 }
@@ -80,10 +102,10 @@ impl Reader<'_> {
     }
 
     /// One pattern's bounds.
-    fn pattern(&mut self, bounds: &mut [Option<Bound>]) -> Result<(), Fault> {
+    fn pattern(&mut self, form: Form, bounds: &mut [Option<Bound>]) -> Result<(), Fault> {
         for bound in bounds {
             let place = self.place;
-            *bound = self.entry(21)?.map(most);
+            *bound = self.entry(|reader| reader.bound(form))?;
             if bound.is_some_and(beyond) {
                 return Err(fault(6, place));
             }
@@ -106,24 +128,22 @@ impl Reader<'_> {
     }
 }
 
-/// The case that the bytes hold, or faults 1, 2 and 4 to 8.
+/// The case that the bytes hold, in either form, or faults 1, 2 and 4 to 8.
 pub fn of_packed(bytes: &[u8]) -> Result<Case, Fault> {
     let mut reader = Reader { bytes, place: 0 };
-    let n = reader.number(3).ok_or(fault(1, 0))? as usize;
-    if n == 0 {
-        return Err(fault(2, 0));
-    }
-    let horizon = reader.number(6).ok_or(fault(1, 3))? as usize + 1;
+    let (form, n) = reader.departures()?;
+    let place = reader.place;
+    let horizon = reader.number(6).ok_or(fault(1, place))? as usize + 1;
     let mut case = Case::empty(n, horizon);
     reader.table(&mut case)?;
     let bounds = n * (n + 1);
-    reader.pattern(&mut case.start[..bounds])?;
-    reader.pattern(&mut case.target[..bounds])?;
+    reader.pattern(form, &mut case.start[..bounds])?;
+    reader.pattern(form, &mut case.target[..bounds])?;
     reader.end()?;
     Ok(case)
 }
 
-/// Faults 4 and 5 of an unpacked table; n is from 1 to 7.
+/// Faults 4 and 5 of an unpacked table; n is from 1 to 15.
 fn of_table(case: &Case) -> Result<(), Fault> {
     for row in 0..case.n {
         for column in 0..case.n {
@@ -141,11 +161,16 @@ fn of_table(case: &Case) -> Result<(), Fault> {
     Ok(())
 }
 
-/// Faults 2 to 5 of an unpacked case.
-fn before_bounds(case: &Case) -> Result<(), Fault> {
-    if !(1..=7).contains(&case.n) {
-        return Err(fault(2, 0));
+/// Fault 2 of an unpacked case.
+fn of_departures(n: usize) -> Result<(), Fault> {
+    match n {
+        1..=DEPARTURES => Ok(()),
+        _ => Err(fault(2, 0)),
     }
+}
+
+/// Faults 3 to 5 of an unpacked case.
+fn of_horizon_and_table(case: &Case) -> Result<(), Fault> {
     if !(1..=64).contains(&case.horizon) {
         return Err(fault(3, 0));
     }
@@ -154,17 +179,25 @@ fn before_bounds(case: &Case) -> Result<(), Fault> {
 
 /// Faults 2 to 6 of an unpacked case.
 pub fn of_case(case: &Case) -> Result<(), Fault> {
-    before_bounds(case)?;
+    of_departures(case.n)?;
+    of_horizon_and_table(case)?;
     match case.bounds().position(|bound| bound.is_some_and(beyond)) {
         Some(place) => Err(fault(6, place)),
         None => Ok(()),
     }
 }
 
-/// Faults 2 to 6 and 16 of a case that is to be written: bound by bound 6, then
-/// 16 if it is strict.
-pub fn of_written(case: &Case) -> Result<(), Fault> {
-    before_bounds(case)?;
+/// The faults of a case that is to be written, but for 14. In the old form n over
+/// 7 is 16 right after 2, and bounds are judged one by one, 6 and then 16.
+pub fn of_written(form: Form, case: &Case) -> Result<(), Fault> {
+    if form == Form::Wide {
+        return of_case(case);
+    }
+    of_departures(case.n)?;
+    if case.n > form.departures() {
+        return Err(fault(16, 0));
+    }
+    of_horizon_and_table(case)?;
     for (place, bound) in case.bounds().enumerate() {
         match bound {
             Some(bound) if beyond(*bound) => return Err(fault(6, place)),
@@ -229,9 +262,7 @@ pub fn of_preview(
 
 /// The faults of a run: 2, 3 for its cycle, 4, 5 and 13.
 pub fn of_run(case: &Case, start: &Times, cycle: usize) -> Result<(), Fault> {
-    if !(1..=7).contains(&case.n) {
-        return Err(fault(2, 0));
-    }
+    of_departures(case.n)?;
     if cycle > 64 {
         return Err(fault(3, 0));
     }

@@ -8,6 +8,7 @@ pub mod checks;
 pub mod damage;
 pub mod enumeration;
 pub mod faults;
+pub mod longest;
 pub mod random;
 pub mod selections;
 pub mod text;

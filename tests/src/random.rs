@@ -1,9 +1,11 @@
 //! A seeded generator of numbers, and random cases made with it.
 
+pub mod wide;
+
 use crate::archive::Verdict;
-use crate::case::{most, pair, Bound, Case, Pattern, Times};
+use crate::case::{most, pair, Bound, Case, Pattern, Times, BOUNDS, DEPARTURES};
 use crate::enumeration::{image, in_parts};
-use crate::selections::{first_repeat, parts_of, search, searched};
+use crate::selections::{first_repeat, search, searched};
 
 /// Numbers that follow from the seed alone (splitmix64).
 pub struct Random {
@@ -61,6 +63,9 @@ pub struct Trial {
 /// Makes random cases.
 pub type Draw = fn(&mut Random) -> Trial;
 
+/// Makes the table of a case of a scale.
+type DrawTable = fn(&mut Random, &mut Case, Scale);
+
 /// The largest sizes of times and of bounds in a case, and whether the
 /// table's times are all of that size.
 #[derive(Clone, Copy)]
@@ -83,15 +88,26 @@ const MIDDLE: Scale = scale(60, 100, false);
 const LARGE: Scale = scale(86_400, 1_000_000, false);
 const EXTREME: Scale = scale(86_400, 1_000_000, true);
 
-/// Zones times selections times cycles that brute search 2 may have to try.
-const LABOUR: usize = 100_000;
+/// Zones times selections times cycles that brute search 2 may have to try. Sets
+/// of more than 7 departures take it about eight times as long.
+fn labour(n: usize) -> usize {
+    match n {
+        ..=7 => 100_000,
+        _ => 12_000,
+    }
+}
+
+/// How many selections a case has.
+pub fn selection_count(case: &Case) -> usize {
+    let columns = |i: usize| (0..case.n).filter(|&j| case.time(i, j).is_some()).count();
+    (0..case.n).map(columns).product()
+}
 
 /// A capacity with which the search on this case stays short, or none if
 /// even one zone is too many.
 pub fn bearable(case: &Case, capacity: usize) -> Option<usize> {
-    let columns = |i: usize| (0..case.n).filter(|&j| case.time(i, j).is_some()).count();
-    let selections: usize = (0..case.n).map(columns).product();
-    let zones = LABOUR / (selections * searched(case).0);
+    let sets_of_a_zone = selection_count(case).saturating_mul(searched(case).0);
+    let zones = labour(case.n) / sets_of_a_zone;
     (zones > 0).then_some(capacity.min(zones))
 }
 
@@ -171,7 +187,7 @@ fn slow_table(random: &mut Random, case: &mut Case, length: i64) {
 /// up to `slack` seconds more than the times need. A bound beyond the limit
 /// is left out.
 fn around(random: &mut Random, n: usize, x: &Times, slack: i64, part: usize) -> Pattern {
-    let mut pattern = [None; 56];
+    let mut pattern = [None; BOUNDS];
     let at = |i: usize| if i == 0 { 0 } else { x[i - 1] };
     for i in 0..=n {
         for j in (0..=n).filter(|&j| j != i) {
@@ -186,7 +202,7 @@ fn around(random: &mut Random, n: usize, x: &Times, slack: i64, part: usize) -> 
 
 /// Bounds of any kind, with no times in mind; many cannot be met.
 fn any_pattern(random: &mut Random, n: usize, scale: Scale, part: usize) -> Pattern {
-    let mut pattern = [None; 56];
+    let mut pattern = [None; BOUNDS];
     for bound in pattern.iter_mut().take(n * (n + 1)) {
         if random.chance(part, 6) {
             *bound = Some(most(random.between(-scale.bound / 2, scale.bound)));
@@ -207,7 +223,7 @@ fn differences(n: usize, mut pattern: Pattern) -> Pattern {
 /// A pattern: free, loose, tight around the times, or of any kind.
 fn pattern(random: &mut Random, n: usize, x: &Times, scale: Scale) -> Pattern {
     let made = match random.below(9) {
-        0 => [None; 56],
+        0 => [None; BOUNDS],
         1 => around(random, n, x, scale.bound, 2),
         8 => around(random, n, x, 0, 1),
         2 => around(random, n, x, 2, 3),
@@ -226,7 +242,7 @@ fn pattern(random: &mut Random, n: usize, x: &Times, scale: Scale) -> Pattern {
 /// Times of a scale. In extreme cases each is far from that of the departure
 /// before it, so that bounds add up.
 fn times(random: &mut Random, n: usize, scale: Scale) -> Times {
-    let mut x = [0; 7];
+    let mut x = [0; DEPARTURES];
     if scale.extreme {
         let mut last = 0;
         let sign = random.one_of(&[-1, 1]);
@@ -279,6 +295,12 @@ fn table(random: &mut Random, case: &mut Case, scale: Scale) {
     }
 }
 
+/// A table with few times.
+fn sparse_table(random: &mut Random, case: &mut Case, scale: Scale) {
+    let part = random.below(2);
+    any_table(random, case, scale, part)
+}
+
 /// Patterns and horizon for a table: the target lies around what a hidden
 /// start becomes after some cycles.
 fn with_patterns(random: &mut Random, mut case: Case, scale: Scale) -> (Case, Times) {
@@ -323,16 +345,11 @@ fn with_capacity(random: &mut Random, case: Case, near: Times, parts: usize) -> 
 }
 
 /// A random case of `low` to `high` departures.
-fn trial_of(random: &mut Random, low: i64, high: i64, sparse: bool) -> Trial {
+fn trial_of(random: &mut Random, low: i64, high: i64, table: DrawTable) -> Trial {
     loop {
         let scale = random.one_of(&[SMALL, SMALL, SMALL, MIDDLE, MIDDLE, LARGE, LARGE, EXTREME]);
         let mut case = Case::empty(random.between(low, high) as usize, 1);
-        if sparse {
-            let part = random.below(2);
-            any_table(random, &mut case, scale, part);
-        } else {
-            table(random, &mut case, scale);
-        }
+        table(random, &mut case, scale);
         let (case, near) = with_patterns(random, case, scale);
         if let Some(trial) = with_capacity(random, case, near, 1) {
             return trial;
@@ -387,38 +404,38 @@ fn late_trial(random: &mut Random) -> Trial {
     }
 }
 
-/// A case with bounds of up to 36,000,000 in its lists, met only late. In each
-/// of three pairs of departures one falls behind and the other runs ahead,
-/// and each of two that fall behind gives the first push to one ahead. The
-/// seventh departure keeps the time.
-fn ladder_trial(random: &mut Random) -> Trial {
-    let order = mixed_order(random, 7);
+/// A case of some pairs of departures with large bounds in its lists, up to
+/// 36,000,000 for three pairs, met only late. In each pair one departure falls
+/// behind and the other runs ahead, and the one behind of the next pair gives the
+/// one ahead the first push. The last departure keeps the time.
+fn ladder_trial(random: &mut Random, pairs: usize) -> Trial {
+    let n = 2 * pairs + 1;
+    let order = mixed_order(random, n);
     let cycles = random.between(50, 64);
-    let mut case = Case::empty(7, cycles as usize + random.below(2));
-    case.horizon = case.horizon.min(64);
-    let place = |i: usize, j: usize| 7 * order[i] + order[j];
-    for (i, ahead) in [-1, -1, 1, -1, 1, 1].into_iter().enumerate() {
-        case.times[place(i, i)] = Some(ahead * random.between(86_000, 86_400));
+    let mut case = Case::empty(n, (cycles as usize + random.below(2)).min(64));
+    let place = |i: usize, j: usize| n * order[i] + order[j];
+    for (behind, ahead) in (0..pairs).zip(pairs..) {
+        case.times[place(behind, behind)] = Some(-random.between(86_000, 86_400));
+        case.times[place(ahead, ahead)] = Some(random.between(86_000, 86_400));
+        if behind + 1 < pairs {
+            case.times[place(ahead, behind + 1)] = Some(86_400);
+        }
+        let bound = random.between(900_000, 1_000_000);
+        case.target[pair(n, order[behind] + 1, order[ahead] + 1)] = Some(most(bound));
     }
-    case.times[place(2, 1)] = Some(86_400);
-    case.times[place(4, 3)] = Some(86_400);
-    case.times[place(6, 6)] = Some(1_000_000 / cycles);
-    let clock = order[6] + 1;
+    case.times[place(n - 1, n - 1)] = Some(1_000_000 / cycles);
+    let clock = order[n - 1] + 1;
     let last = 1_000_000 / cycles * cycles;
     for (pattern, time) in [(&mut case.start, 0), (&mut case.target, last)] {
-        pattern[pair(7, clock, 0)] = Some(most(time));
-        pattern[pair(7, 0, clock)] = Some(most(-time));
+        pattern[pair(n, clock, 0)] = Some(most(time));
+        pattern[pair(n, 0, clock)] = Some(most(-time));
     }
-    case.start[pair(7, order[0] + 1, 0)] = Some(most(random.between(0, 9)));
-    case.start[pair(7, 0, order[0] + 1)] = Some(most(0));
-    for (behind, ahead) in [(0, 2), (1, 4), (3, 5)] {
-        let bound = random.between(900_000, 1_000_000);
-        case.target[pair(7, order[behind] + 1, order[ahead] + 1)] = Some(most(bound));
-    }
+    case.start[pair(n, order[0] + 1, 0)] = Some(most(random.between(0, 9)));
+    case.start[pair(n, 0, order[0] + 1)] = Some(most(0));
     Trial {
         case,
         capacity: 128,
-        near: [0; 7],
+        near: [0; DEPARTURES],
         parts: 1,
     }
 }
@@ -426,11 +443,11 @@ fn ladder_trial(random: &mut Random) -> Trial {
 /// A random case: most are of 1 to 4 departures, some of 5 to 7.
 pub fn trial(random: &mut Random) -> Trial {
     match random.below(64) {
-        0..=3 => trial_of(random, 5, 7, true),
+        0..=3 => trial_of(random, 5, 7, sparse_table),
         4..=15 => choice_trial(random),
         16..=17 => late_trial(random),
-        18 => ladder_trial(random),
-        _ => trial_of(random, 1, 4, false),
+        18 => ladder_trial(random, 3),
+        _ => trial_of(random, 1, 4, table),
     }
 }
 
@@ -451,7 +468,7 @@ fn around_parts(
     slack: i64,
     part: usize,
 ) -> Pattern {
-    let mut pattern = [None; 56];
+    let mut pattern = [None; BOUNDS];
     let at = |i: usize| if i == 0 { 0 } else { x[i - 1] };
     for i in 0..=n {
         for j in (0..=n).filter(|&j| j != i) {
@@ -466,29 +483,51 @@ fn around_parts(
     pattern
 }
 
-/// A case of 1 to 4 departures with a hidden start between two seconds: the
-/// target lies around what it becomes after some cycles. Often nobody meets
-/// both patterns in whole seconds.
-fn fraction_trial(random: &mut Random) -> Trial {
+/// Patterns and horizon for a table, with a hidden start between two seconds: the
+/// target lies around what it becomes after some cycles. Often nobody meets both
+/// patterns in whole seconds. The start is handed back with its parts.
+fn with_fractions(random: &mut Random, mut case: Case, scale: Scale) -> (Case, Times, usize) {
+    let n = case.n;
+    let parts = random.between(2, 2 * n as i64 + 2);
+    let bound = random.one_of(&[2, scale.bound]) * parts;
+    let near = times(random, n, Scale { bound, ..scale });
+    let arrival = cycles(random);
+    let then = image(&in_parts(&case, parts as usize), &near, arrival);
+    for (pattern, x) in [(&mut case.start, &near), (&mut case.target, &then)] {
+        let (slack, part) = random.one_of(&[(0, 6), (0, 6), (0, 2), (1, 1), (2, 3)]);
+        *pattern = around_parts(random, n, (x, parts), slack, part);
+        if random.chance(1, 3) {
+            *pattern = differences(n, *pattern);
+        }
+    }
+    case.horizon = sharp_horizon(random, &case, arrival);
+    (case, near, parts as usize)
+}
+
+/// A case of `low` to `high` departures with such a start.
+fn fraction_trial_of(random: &mut Random, low: i64, high: i64, table: DrawTable) -> Trial {
     loop {
         let scale = random.one_of(&[SMALL, SMALL, SMALL, MIDDLE, LARGE]);
-        let n = random.between(1, 4) as usize;
-        let mut case = Case::empty(n, 1);
+        let mut case = Case::empty(random.between(low, high) as usize, 1);
         table(random, &mut case, scale);
-        let parts = random.between(2, 2 * n as i64 + 2);
-        let bound = random.one_of(&[2, scale.bound]) * parts;
-        let near = times(random, n, Scale { bound, ..scale });
-        let arrival = cycles(random);
-        let then = image(&in_parts(&case, parts as usize), &near, arrival);
-        for (pattern, x) in [(&mut case.start, &near), (&mut case.target, &then)] {
-            let (slack, part) = random.one_of(&[(0, 6), (0, 6), (0, 2), (1, 1), (2, 3)]);
-            *pattern = around_parts(random, n, (x, parts), slack, part);
-            if random.chance(1, 3) {
-                *pattern = differences(n, *pattern);
-            }
+        let (case, near, parts) = with_fractions(random, case, scale);
+        if let Some(trial) = with_capacity(random, case, near, parts) {
+            return trial;
         }
-        case.horizon = sharp_horizon(random, &case, arrival);
-        if let Some(trial) = with_capacity(random, case, near, parts as usize) {
+    }
+}
+
+/// A case with a strict bound that counts, drawn with such a start or marked.
+fn marked_trial(random: &mut Random, with_fractions: Draw, plain: Draw) -> Trial {
+    loop {
+        let trial = if random.chance(1, 2) {
+            with_fractions(random)
+        } else {
+            let mut trial = plain(random);
+            mark(random, &mut trial.case);
+            trial
+        };
+        if trial.case.marked() {
             return trial;
         }
     }
@@ -496,18 +535,11 @@ fn fraction_trial(random: &mut Random) -> Trial {
 
 /// A random case with a strict bound that counts.
 pub fn strict_trial(random: &mut Random) -> Trial {
-    loop {
-        let trial = if random.chance(1, 2) {
-            fraction_trial(random)
-        } else {
-            let mut trial = trial(random);
-            mark(random, &mut trial.case);
-            trial
-        };
-        if parts_of(&trial.case) > 1 {
-            return trial;
-        }
-    }
+    marked_trial(
+        random,
+        |random| fraction_trial_of(random, 1, 4, table),
+        trial,
+    )
 }
 
 /// A table of n departures without a single blank, over one or two cycles.
@@ -580,7 +612,7 @@ pub fn crowded_trial(random: &mut Random, n: usize, horizon: usize) -> Trial {
     Trial {
         case,
         capacity: 4096,
-        near: [0; 7],
+        near: [0; DEPARTURES],
         parts: 1,
     }
 }

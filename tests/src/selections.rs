@@ -2,10 +2,10 @@
 //! made by trying every selection on every zone.
 
 use crate::archive::{Answer, Fault, Verdict};
-use crate::case::{most, pair, Bound, Case, Pattern, Times};
+use crate::case::{most, pair, Bound, Case, Pattern, Times, DEPARTURES};
 
 /// The column selected in each row.
-pub type Selection = [usize; 7];
+pub type Selection = [usize; DEPARTURES];
 
 /// Whether a bound allows less than another: of equal numbers the strict one.
 fn tighter(one: Bound, other: Bound) -> bool {
@@ -20,21 +20,26 @@ fn sum(one: Bound, other: Bound) -> Bound {
     }
 }
 
-/// For each pair i, j from 0 to n a bound on x(i) - x(j), or none.
-#[derive(Clone, Copy, Debug, PartialEq, Eq)]
+/// For each pair i, j from 0 to n a bound on x(i) - x(j), or none, row by row.
+#[derive(Clone, Debug, PartialEq, Eq)]
 pub struct Bounds {
     n: usize,
-    bounds: [[Option<Bound>; 8]; 8],
+    bounds: Vec<Option<Bound>>,
 }
 
 impl Bounds {
     /// No bound, but that x(i) - x(i) is 0.
     pub fn free(n: usize) -> Bounds {
-        let mut all = [[None; 8]; 8];
-        for (i, row) in all.iter_mut().enumerate() {
-            row[i] = Some(most(0));
+        let mut all = vec![None; (n + 1) * (n + 1)];
+        for i in 0..=n {
+            all[i * (n + 1) + i] = Some(most(0));
         }
         Bounds { n, bounds: all }
+    }
+
+    /// The bound on x(i) - x(j).
+    fn at(&self, i: usize, j: usize) -> Option<Bound> {
+        self.bounds[i * (self.n + 1) + j]
     }
 
     /// The bounds that a pattern states.
@@ -52,7 +57,7 @@ impl Bounds {
 
     /// One more bound on x(i) - x(j).
     pub fn add(&mut self, i: usize, j: usize, bound: Bound) {
-        let place = &mut self.bounds[i][j];
+        let place = &mut self.bounds[i * (self.n + 1) + j];
         if place.is_none_or(|known| tighter(bound, known)) {
             *place = Some(bound);
         }
@@ -64,17 +69,17 @@ impl Bounds {
         let size = self.n + 1;
         for via in 0..size {
             for i in 0..size {
-                let Some(left) = self.bounds[i][via] else {
+                let Some(left) = self.at(i, via) else {
                     continue;
                 };
                 for j in 0..size {
-                    if let Some(right) = self.bounds[via][j] {
+                    if let Some(right) = self.at(via, j) {
                         self.add(i, j, sum(left, right));
                     }
                 }
             }
         }
-        let stays = |i: usize| self.bounds[i][i] == Some(most(0));
+        let stays = |i: usize| self.at(i, i) == Some(most(0));
         (0..size).all(stays).then_some(self)
     }
 
@@ -82,7 +87,7 @@ impl Bounds {
     pub fn and(mut self, other: &Bounds) -> Option<Bounds> {
         for i in 0..=self.n {
             for j in 0..=self.n {
-                if let Some(bound) = other.bounds[i][j] {
+                if let Some(bound) = other.at(i, j) {
                     self.add(i, j, bound);
                 }
             }
@@ -96,7 +101,7 @@ impl Bounds {
         let mut set = Bounds::free(self.n);
         for i in 0..=self.n {
             for j in 0..=self.n {
-                if let Some(Bound { value, strict }) = self.bounds[i][j] {
+                if let Some(Bound { value, strict }) = self.at(i, j) {
                     set.add(i, j, most(value * parts as i64 - i64::from(strict)));
                 }
             }
@@ -108,7 +113,7 @@ impl Bounds {
     pub fn holds(&self, parts: usize, x: &Times) -> bool {
         let at = |i: usize| if i == 0 { 0 } else { x[i - 1] };
         let kept = |i: usize, j: usize| {
-            self.bounds[i][j].is_none_or(|bound| {
+            self.at(i, j).is_none_or(|bound| {
                 let (apart, allowed) = (at(i) - at(j), bound.value * parts as i64);
                 apart < allowed || apart == allowed && !bound.strict
             })
@@ -118,14 +123,14 @@ impl Bounds {
 
     /// Whether a finite bound is beyond 2,000,000,000 in size.
     fn too_large(&self) -> bool {
-        let mut finite = self.bounds.iter().flatten().flatten();
+        let mut finite = self.bounds.iter().flatten();
         finite.any(|bound| bound.value.abs() > 2_000_000_000)
     }
 }
 
 /// All selections, row 1 first, lower column first.
 pub fn selections(case: &Case) -> Vec<Selection> {
-    let mut all = vec![[0; 7]];
+    let mut all = vec![[0; DEPARTURES]];
     for row in 0..case.n {
         let mut longer = Vec::new();
         for selection in &all {
@@ -146,8 +151,8 @@ pub fn before(case: &Case, zone: &Bounds, selection: &Selection) -> Option<Bound
     let mut set = Bounds::free(case.n);
     // The image of departure i is that of its column with its time added; the
     // clock's zero stays where it is.
-    let mut column = [0; 8];
-    let mut added = [0; 8];
+    let mut column = [0; DEPARTURES + 1];
+    let mut added = [0; DEPARTURES + 1];
     for row in 0..case.n {
         let selected = selection[row];
         let largest = case.time(row, selected).expect("a selected time");
@@ -161,7 +166,7 @@ pub fn before(case: &Case, zone: &Bounds, selection: &Selection) -> Option<Bound
     }
     for i in 0..=case.n {
         for j in 0..=case.n {
-            if let Some(bound) = zone.bounds[i][j] {
+            if let Some(bound) = zone.at(i, j) {
                 let back = most(added[j] - added[i]);
                 set.add(column[i], column[j], sum(bound, back));
             }
@@ -255,7 +260,7 @@ pub fn searched(case: &Case) -> (usize, bool) {
 /// The parts of a second that a start is handed back in: 1, or n + 1 if a bound
 /// of either pattern is strict.
 pub fn parts_of(case: &Case) -> usize {
-    match case.bounds().flatten().any(|bound| bound.strict) {
+    match case.marked() {
         true => case.n + 1,
         false => 1,
     }
@@ -265,11 +270,11 @@ pub fn parts_of(case: &Case) -> usize {
 /// the greatest time; if there is none, the least; if neither, 0. Each time is
 /// fixed by two more bounds before the next is looked for.
 pub fn picked(set: &Bounds) -> Times {
-    let mut set = *set;
-    let mut times = [0; 7];
+    let mut set = set.clone();
+    let mut times = [0; DEPARTURES];
     for i in 1..=set.n {
-        let closed = set.closed().expect("the set holds the times chosen so far");
-        times[i - 1] = match (closed.bounds[i][0], closed.bounds[0][i]) {
+        set = set.closed().expect("the set holds the times chosen so far");
+        times[i - 1] = match (set.at(i, 0), set.at(0, i)) {
             (None, None) => 0,
             (None, Some(below)) => -below.value,
             (Some(greatest), _) => greatest.value,
@@ -285,7 +290,7 @@ pub fn without_start(verdict: Verdict) -> Answer {
     Answer {
         verdict,
         parts: 0,
-        start: [0; 7],
+        start: [0; DEPARTURES],
     }
 }
 
@@ -314,7 +319,7 @@ fn decided(
     if list.iter().any(Bounds::too_large) {
         return Err(fault(12));
     }
-    Ok(list.iter().find_map(|zone| zone.and(start)))
+    Ok(list.iter().find_map(|zone| zone.clone().and(start)))
 }
 
 /// The answer that reaches the target at a cycle, with the start from a set.

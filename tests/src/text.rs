@@ -6,14 +6,19 @@ use crate::enumeration::{in_parts, step};
 use crate::faults;
 use crate::selections::search;
 
-/// The capacity that the program uses.
-pub const CAPACITY: usize = 128;
+/// The capacity that the program uses for n departures.
+pub fn capacity(n: usize) -> usize {
+    match n {
+        ..=7 => 128,
+        _ => 32,
+    }
+}
 
 /// What the program prints for the bytes on its standard input.
 pub fn printed(bytes: &[u8]) -> String {
     match faults::of_packed(bytes) {
         Err(fault) => format!("refused {} {}\n", fault.number, fault.returned),
-        Ok(case) => lines(&case, &search(&case, CAPACITY).answer),
+        Ok(case) => lines(&case, &search(&case, capacity(case.n)).answer),
     }
 }
 

@@ -1,11 +1,12 @@
 //! A test of the tests: brute search 1 against brute search 2.
 
 use evidence::archive::Verdict;
-use evidence::case::{most, pair, Case, Times};
+use evidence::case::{most, pair, Case, Times, DEPARTURES};
 use evidence::checks::unmet_up_to;
 use evidence::enumeration::{
     choice, first_cycle, first_in_box, image, in_parts, starts, step, tried_parts, within,
 };
+use evidence::random::wide::{strict_wide_trial, wide_trial};
 use evidence::random::{bearable, strict_trial, trial, Draw, Random};
 use evidence::selections::{
     before, next_list, parts_of, picked, search, selections, Bounds, Selection,
@@ -49,7 +50,7 @@ fn compare(case: &Case, capacity: usize, radius: i64, words: &str) -> usize {
     };
     let parts = parts_of(case);
     let reach = radius * parts as i64;
-    let first = first_in_box(&in_parts(case, parts), &[0; 7], reach, limit);
+    let first = first_in_box(&in_parts(case, parts), &[0; DEPARTURES], reach, limit);
     assert_eq!(first, met, "{answer:?}, {words}");
     kind
 }
@@ -91,7 +92,7 @@ fn compare_parts(case: &Case, capacity: usize, words: &str) -> bool {
     for parts in tried_parts(case.n) {
         let reach = RADIUS_IN_PARTS[case.n] * parts as i64;
         let first = |limit| {
-            let met = first_in_box(&in_parts(case, parts), &[0; 7], reach, limit);
+            let met = first_in_box(&in_parts(case, parts), &[0; DEPARTURES], reach, limit);
             met.map(|(cycle, _)| cycle)
         };
         let words = || format!("{parts} parts, {answer:?}, {words}");
@@ -130,8 +131,9 @@ fn no_start_in_parts_contradicts() {
     assert!(fractions > 300, "{fractions}");
 }
 
-/// Each time of a start handed back is by the rule.
-fn by_the_rule(draw: Draw, cases: u64) {
+/// Each time of a start handed back is by the rule, and each part of the rule is
+/// used so often.
+fn by_the_rule(draw: Draw, cases: u64, least: usize) {
     let mut counts = [0; 3];
     for seed in 0..cases {
         let trial = draw(&mut Random::new(seed));
@@ -148,17 +150,27 @@ fn by_the_rule(draw: Draw, cases: u64) {
         }
     }
     println!("greatest, least, 0: {counts:?}");
-    assert!(counts.iter().all(|&count| count > 200), "{counts:?}");
+    assert!(counts.iter().all(|&count| count > least), "{counts:?}");
 }
 
 #[test]
 fn starts_by_the_rule() {
-    by_the_rule(trial, 4000);
+    by_the_rule(trial, 4000, 200);
 }
 
 #[test]
 fn starts_in_parts_by_the_rule() {
-    by_the_rule(strict_trial, 8000);
+    by_the_rule(strict_trial, 8000, 200);
+}
+
+#[test]
+fn starts_of_many_departures_by_the_rule() {
+    by_the_rule(wide_trial, 600, 10);
+}
+
+#[test]
+fn starts_of_many_departures_in_parts_by_the_rule() {
+    by_the_rule(strict_wide_trial, 1000, 5);
 }
 
 /// Whether each selected column attains its row's largest sum.
@@ -177,12 +189,12 @@ fn members(case: &Case, parts: usize, radius: i64, words: &str) -> usize {
         return 0;
     };
     let scaled = in_parts(case, parts);
-    let all = starts(case.n, &[0; 7], radius * parts as i64);
+    let all = starts(case.n, &[0; DEPARTURES], radius * parts as i64);
     let mut members = 0;
     for selection in selections(case) {
         let set = before(case, &zone, &selection);
         for x in &all {
-            let inside = set.is_some_and(|set| set.holds(parts, x));
+            let inside = set.as_ref().is_some_and(|set| set.holds(parts, x));
             let image = step(&scaled, x);
             let said = attains(&scaled, &selection, x) && within(case.n, &scaled.target, &image);
             assert_eq!(inside, said, "{parts} parts, {x:?}, {selection:?}, {words}");
@@ -255,7 +267,7 @@ impl Listed {
     ) {
         let scaled = in_parts(case, parts);
         let met = |x: &Times| within(case.n, &scaled.target, &image(&scaled, x, k));
-        for x in &starts(case.n, &[0; 7], radius * parts as i64) {
+        for x in &starts(case.n, &[0; DEPARTURES], radius * parts as i64) {
             let listed = list.iter().any(|zone| zone.holds(parts, x));
             assert_eq!(listed, met(x), "{parts} parts, {x:?}, {words}");
             self.members[usize::from(listed)] += 1;

@@ -2,14 +2,27 @@
 //! as the faults and brute search 2 say, and leaves the workspace as it must be.
 
 use evidence::archive;
-use evidence::case::{Case, Entries};
+use evidence::case::{Case, Entries, Form, DEPARTURES, START};
 use evidence::checks::{named, named_unpacked, noisy, of_packed, of_unpacked, Lent};
 use evidence::faults;
-use evidence::random::{bearable, trial, Random};
+use evidence::random::wide::{any_trial, wide_trial};
+use evidence::random::{bearable, trial, Draw, Random};
+use std::ops::Range;
 
-/// Bytes of any kind, 0 to 600 of them; the first often names a small n.
-fn any_bytes(random: &mut Random) -> Vec<u8> {
-    let length = random.below(601);
+/// A byte with which a case of a form begins; n is mostly 1 or 2.
+fn first_byte(random: &mut Random, form: Form) -> u8 {
+    let small = 1 + random.below(2) as u8;
+    let any = random.draw() as u8;
+    match form {
+        Form::Old => small << 5 | any & 31,
+        Form::Wide if random.chance(2, 3) => small << 1 | any & 1,
+        Form::Wide => any & 31,
+    }
+}
+
+/// Bytes of any kind, 0 to `most` of them; the first often names a small n.
+fn any_bytes(random: &mut Random, form: Form, most: usize) -> Vec<u8> {
+    let length = random.below(most + 1);
     let ones = random.one_of(&[0, 1, 2, 3]);
     let mut bytes: Vec<u8> = Vec::with_capacity(length);
     for _ in 0..length {
@@ -18,13 +31,13 @@ fn any_bytes(random: &mut Random) -> Vec<u8> {
         bytes.push(byte);
     }
     if let (Some(first), true) = (bytes.first_mut(), random.chance(1, 2)) {
-        *first = *first & 31 | 32 << random.below(2);
+        *first = first_byte(random, form);
     }
     bytes
 }
 
 /// Changes one place of the bytes, or takes part of another case.
-fn mutate(random: &mut Random, bytes: &mut Vec<u8>) {
+fn mutate(random: &mut Random, bytes: &mut Vec<u8>, form: Form, draw: Draw) {
     let at = random.below(bytes.len() + 1);
     match random.below(7) {
         0 => bytes.insert(at, random.draw() as u8),
@@ -32,7 +45,7 @@ fn mutate(random: &mut Random, bytes: &mut Vec<u8>) {
         2 if at < bytes.len() => bytes[at] = random.draw() as u8,
         3 if at < bytes.len() => bytes[at] ^= 1 << random.below(8),
         4 => {
-            let other = trial(random).case.pack();
+            let other = draw(random).case.pack(form);
             bytes.truncate(at);
             bytes.extend(other.get(at..).unwrap_or(&[]));
         }
@@ -45,10 +58,10 @@ fn mutate(random: &mut Random, bytes: &mut Vec<u8>) {
 }
 
 /// A valid case changed up to four times.
-fn mutated(random: &mut Random) -> Vec<u8> {
-    let mut bytes = trial(random).case.pack();
+fn mutated(random: &mut Random, form: Form, draw: Draw) -> Vec<u8> {
+    let mut bytes = draw(random).case.pack(form);
     for _ in 0..=random.below(4) {
-        mutate(random, &mut bytes);
+        mutate(random, &mut bytes, form, draw);
     }
     bytes
 }
@@ -64,7 +77,7 @@ fn check(seed: u64, random: &mut Random, bytes: &[u8]) -> bool {
             None => return false,
         }
     }
-    let n = read.map_or(7, |case| case.n);
+    let n = read.map_or(DEPARTURES, |case| case.n);
     let length = faults::workspace(n, capacity) + random.below(3);
     let mut lent = Lent::new(random, length);
     let answer = archive::verdict(bytes, capacity, lent.part());
@@ -75,25 +88,43 @@ fn check(seed: u64, random: &mut Random, bytes: &[u8]) -> bool {
     read.is_ok()
 }
 
-#[test]
-fn arbitrary_bytes() {
-    for seed in 4_000_000..4_060_000 {
+fn compare_arbitrary(seeds: Range<u64>, form: Form, most: usize) {
+    for seed in seeds {
         let mut random = Random::new(seed);
-        let bytes = any_bytes(&mut random);
+        let bytes = any_bytes(&mut random, form, most);
         check(seed, &mut random, &bytes);
     }
 }
 
 #[test]
-fn mutated_cases() {
+fn arbitrary_bytes() {
+    compare_arbitrary(4_000_000..4_060_000, Form::Old, 600);
+}
+
+#[test]
+fn arbitrary_wide_bytes() {
+    compare_arbitrary(4_000_000..4_030_000, Form::Wide, 2100);
+}
+
+fn compare_mutated(seeds: Range<u64>, form: Form, draw: Draw, least: usize) {
     let mut cases = 0;
-    for seed in 5_000_000..5_060_000 {
+    for seed in seeds {
         let mut random = Random::new(seed);
-        let bytes = mutated(&mut random);
+        let bytes = mutated(&mut random, form, draw);
         cases += usize::from(check(seed, &mut random, &bytes));
     }
     println!("cases left after mutation: {cases}");
-    assert!(cases >= 3000, "only {cases} were cases");
+    assert!(cases >= least, "only {cases} were cases");
+}
+
+#[test]
+fn mutated_cases() {
+    compare_mutated(5_000_000..5_060_000, Form::Old, trial, 3000);
+}
+
+#[test]
+fn mutated_wide_cases() {
+    compare_mutated(5_000_000..5_020_000, Form::Wide, any_trial, 1000);
 }
 
 /// A case with any bytes in the places of the marks, some of them mostly 0.
@@ -107,7 +138,7 @@ fn any_marks(random: &mut Random, mut case: Case) -> (Case, Entries) {
         };
     }
     let bounds = case.start.iter_mut().chain(&mut case.target);
-    for (bound, &byte) in bounds.zip(&entries.strict[49..]) {
+    for (bound, &byte) in bounds.zip(&entries.strict[START..]) {
         if let Some(bound) = bound {
             bound.strict = byte != 0;
         }
@@ -115,12 +146,12 @@ fn any_marks(random: &mut Random, mut case: Case) -> (Case, Entries) {
     (case, entries)
 }
 
-#[test]
-fn arbitrary_marks() {
-    let mut counts = [0; 9];
-    for seed in 6_000_000..6_020_000 {
+/// Returns how often a start is handed back in so many parts.
+fn compare_marks(seeds: Range<u64>, draw: Draw) -> [usize; DEPARTURES + 2] {
+    let mut counts = [0; DEPARTURES + 2];
+    for seed in seeds {
         let mut random = Random::new(seed);
-        let trial = trial(&mut random);
+        let trial = draw(&mut random);
         let (case, entries) = any_marks(&mut random, trial.case);
         let (n, horizon, capacity) = (case.n, case.horizon, trial.capacity);
         let length = faults::workspace(n, capacity) + random.below(3);
@@ -132,6 +163,18 @@ fn arbitrary_marks() {
         assert_eq!(lent.right_after(&expected), Ok(()), "{}", words());
         counts[expected.parts] += 1;
     }
-    println!("parts 0 to 8: {counts:?}");
+    println!("parts 0 to 16: {counts:?}");
+    counts
+}
+
+#[test]
+fn arbitrary_marks() {
+    let counts = compare_marks(6_000_000..6_020_000, trial);
     assert!(counts[..6].iter().all(|&count| count >= 100), "{counts:?}");
+}
+
+#[test]
+fn arbitrary_marks_of_many_departures() {
+    let counts = compare_marks(6_000_000..6_006_000, wide_trial);
+    assert!(counts[9..].iter().sum::<usize>() >= 40, "{counts:?}");
 }

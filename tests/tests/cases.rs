@@ -1,7 +1,9 @@
 //! The cases to try: the program prints for each what stands beside it.
 
 use evidence::faults;
+use evidence::random::selection_count;
 use evidence::text::printed;
+use std::env;
 use std::fs::{self, File};
 use std::path::{Path, PathBuf};
 use std::process::Command;
@@ -11,14 +13,18 @@ fn beside(name: &str) -> PathBuf {
     Path::new(env!("CARGO_MANIFEST_DIR")).join("..").join(name)
 }
 
+/// The program, at its place in the repository unless told otherwise.
+fn program() -> PathBuf {
+    match env::var_os("TRAMCHECK") {
+        Some(given) => PathBuf::from(given),
+        None => beside("target/bin/tramcheck"),
+    }
+}
+
 /// Whether the brute search is done soon: the selections are few, or there is
 /// nothing to search.
 fn is_small(bytes: &[u8]) -> bool {
-    let Ok(case) = faults::of_packed(bytes) else {
-        return true;
-    };
-    let columns = |i: usize| (0..case.n).filter(|&j| case.time(i, j).is_some()).count();
-    (0..case.n).map(columns).product::<usize>() < 1000
+    faults::of_packed(bytes).map_or(true, |case| selection_count(&case) < 1000)
 }
 
 #[test]
@@ -34,12 +40,12 @@ fn every_case_prints_what_is_stored() {
         if is_small(&bytes) {
             assert_eq!(printed(&bytes), stored, "brute search on {case:?}");
         }
-        let output = Command::new(beside("target/bin/tramcheck"))
+        let output = Command::new(program())
             .stdin(File::open(&case).expect("the case"))
             .output()
             .expect("the program starts");
         assert_eq!(String::from_utf8_lossy(&output.stdout), stored, "{case:?}");
         count += 1;
     }
-    assert!(count >= 4, "{count} cases");
+    assert!(count >= 10, "{count} cases");
 }

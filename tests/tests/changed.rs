@@ -2,10 +2,11 @@
 //! on a changed copy, and against the faults of request [2].
 
 use evidence::archive::{self, Answer, Change, Fault, Verdict};
-use evidence::case::{most, Case, Entries};
+use evidence::case::{most, Case, Entries, DEPARTURES};
 use evidence::checks::{fault_number, noisy, refused, Lent};
 use evidence::damage::{self, ChangeCall, UnpackedCall};
 use evidence::faults;
+use evidence::random::wide::{strict_wide_trial, wide_trial};
 use evidence::random::{strict_trial, trial, Draw, Random};
 
 /// What a commit must leave: one place set, all else as it was.
@@ -104,6 +105,16 @@ fn copies_with_marks() {
     compare_copies(10_000, strict_trial);
 }
 
+#[test]
+fn copies_of_many_departures() {
+    compare_copies(5_000, wide_trial);
+}
+
+#[test]
+fn copies_of_many_departures_with_marks() {
+    compare_copies(5_000, strict_wide_trial);
+}
+
 /// One cycle of n departures with times in one column alone, all 0, and the
 /// change of one of them to 1. Every start will do, so that it is reached.
 fn plain(n: usize, row: usize, column: usize) -> ChangeCall {
@@ -131,7 +142,7 @@ fn check_plain(given: &ChangeCall, judged: Result<(), (usize, usize)>) {
     let reached = Answer {
         verdict: Verdict::Reached { cycle: 1 },
         parts: 1,
-        start: [0; 7],
+        start: [0; DEPARTURES],
     };
     let judged = judged.map_err(|(number, returned)| Fault { number, returned });
     check(0, given, judged.map_or_else(refused, |()| reached), judged);
@@ -162,7 +173,7 @@ fn every_change(n: usize, row: usize, column: usize) {
 
 #[test]
 fn every_place() {
-    for n in 1..=7 {
+    for n in 1..=DEPARTURES {
         for place in 0..n * n {
             every_change(n, place / n + 1, place % n + 1);
         }
@@ -171,7 +182,7 @@ fn every_place() {
 
 #[test]
 fn outside() {
-    for n in 1..=7 {
+    for n in 1..=DEPARTURES {
         for line in [0, n + 1, usize::MAX] {
             for (row, column) in [(line, 1), (1, line), (n, line), (line, n), (line, line)] {
                 let mut given = plain(n, 1, 1);
@@ -189,7 +200,7 @@ type Cause = (usize, usize, fn(&mut ChangeCall));
 /// In the order in which they are judged. No change can be both beyond the limit
 /// and blank: there the earlier cause undoes the later.
 const CAUSES: [Cause; 12] = [
-    (2, 0, |given| given.call.case.n = 8),
+    (2, 0, |given| given.call.case.n = 16),
     (3, 0, |given| given.call.case.horizon = 65),
     (4, 1, |given| given.call.case.times[1] = Some(86_401)),
     (5, 3, |given| given.call.case.times[4] = None),

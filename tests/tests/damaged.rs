@@ -2,11 +2,12 @@
 //! workspace afterwards.
 
 use evidence::archive::{self, Run, RunInParts};
-use evidence::case::Case;
+use evidence::case::{Case, Form, BOUNDS, DEPARTURES};
 use evidence::checks::{fault_number, named, named_unpacked, noisy, of_packed, of_unpacked, Lent};
 use evidence::damage;
 use evidence::enumeration::{image, in_parts};
 use evidence::faults;
+use evidence::random::wide::{any_trial, strict_wide_trial, wide_trial};
 use evidence::random::{strict_trial, trial, Draw, Random};
 use evidence::selections::parts_of;
 
@@ -23,12 +24,11 @@ fn enough(counts: &[usize; 14], numbers: &[usize]) {
     }
 }
 
-#[test]
-fn packed() {
+fn compare_packed(cases: u64, form: Form, draw: Draw) {
     let mut counts = [0; 14];
-    for seed in 1_000_000..1_014_000 {
+    for seed in 1_000_000..1_000_000 + cases {
         let mut random = Random::new(seed);
-        let call = damage::packed(&mut random);
+        let call = damage::packed(&mut random, form, draw);
         let expected = of_packed(&call.bytes, call.capacity, call.work_length);
         let mut lent = Lent::new(&mut random, call.work_length);
         let answer = archive::verdict(&call.bytes, call.capacity, lent.part());
@@ -46,9 +46,19 @@ fn packed() {
     enough(&counts, &[0, 1, 2, 4, 5, 6, 7, 8, 9, 10, 11]);
 }
 
-fn compare_unpacked(draw: Draw) {
+#[test]
+fn packed() {
+    compare_packed(14_000, Form::Old, trial);
+}
+
+#[test]
+fn packed_wide() {
+    compare_packed(7_000, Form::Wide, any_trial);
+}
+
+fn compare_unpacked(cases: u64, draw: Draw) {
     let mut counts = [0; 14];
-    for seed in 2_000_000..2_014_000 {
+    for seed in 2_000_000..2_000_000 + cases {
         let mut random = Random::new(seed);
         let call = damage::unpacked(&mut random, draw);
         let expected = of_unpacked(&call.case, call.capacity, call.work_length);
@@ -72,12 +82,22 @@ fn compare_unpacked(draw: Draw) {
 
 #[test]
 fn unpacked() {
-    compare_unpacked(trial);
+    compare_unpacked(14_000, trial);
 }
 
 #[test]
 fn unpacked_with_marks() {
-    compare_unpacked(strict_trial);
+    compare_unpacked(14_000, strict_trial);
+}
+
+#[test]
+fn unpacked_of_many_departures() {
+    compare_unpacked(5_000, wide_trial);
+}
+
+#[test]
+fn unpacked_of_many_departures_with_marks() {
+    compare_unpacked(5_000, strict_wide_trial);
 }
 
 /// What a run must give, in seconds or in parts of a second.
@@ -89,13 +109,13 @@ fn expected_run(call: &damage::RunCall, parts: usize) -> Run {
             start[call.case.n..].fill(0);
             // A run does not look at the bounds, which may be too large here.
             let table = Case {
-                start: [None; 56],
-                target: [None; 56],
+                start: [None; BOUNDS],
+                target: [None; BOUNDS],
                 ..call.case
             };
             image(&in_parts(&table, parts), &start, call.cycle)
         }
-        Err(_) => [0; 7],
+        Err(_) => [0; DEPARTURES],
     };
     Run { judged, times }
 }
@@ -109,9 +129,9 @@ fn expected_in_parts(call: &damage::RunCall) -> RunInParts {
 }
 
 /// Damaged runs; returns how often the parts are 0, 1 and more.
-fn compare_runs(draw: Draw) -> [usize; 3] {
+fn compare_runs(cases: u64, draw: Draw) -> [usize; 3] {
     let (mut counts, mut kinds) = ([0; 14], [0; 3]);
-    for seed in 3_000_000..3_014_000 {
+    for seed in 3_000_000..3_000_000 + cases {
         let mut random = Random::new(seed);
         let call = damage::run(&mut random, draw);
         let expected = expected_run(&call, 1);
@@ -142,12 +162,18 @@ fn compare_runs(draw: Draw) -> [usize; 3] {
 
 #[test]
 fn runs() {
-    let [_, whole, in_parts] = compare_runs(trial);
+    let [_, whole, in_parts] = compare_runs(14_000, trial);
     assert!(whole > 1000 && in_parts == 0, "{whole}, {in_parts}");
 }
 
 #[test]
 fn runs_with_marks() {
-    let [_, _, in_parts] = compare_runs(strict_trial);
+    let [_, _, in_parts] = compare_runs(14_000, strict_trial);
+    assert!(in_parts > 1000, "{in_parts}");
+}
+
+#[test]
+fn runs_of_many_departures() {
+    let [_, _, in_parts] = compare_runs(7_000, strict_wide_trial);
     assert!(in_parts > 1000, "{in_parts}");
 }

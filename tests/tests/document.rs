@@ -2,10 +2,11 @@
 //! the archive.
 
 use evidence::archive::{self, Answer, Fault, Run, RunInParts, Verdict};
-use evidence::case::{less, most, pair, Case, Times};
+use evidence::case::{less, most, pair, Case, Form, Times, DEPARTURES, TIMES};
 use evidence::checks::refused;
 use evidence::faults;
-use evidence::selections::{first_repeat, parts_of, search, without_start, Bounds, Repeat};
+use evidence::longest::longest;
+use evidence::selections::{first_repeat, search, without_start, Bounds, Repeat};
 use evidence::text::{lines, printed};
 
 /// A pair of departures and a bound on their difference.
@@ -54,23 +55,23 @@ fn from_to_less(mut case: Case, start: &[Bound], target: &[Bound]) -> Case {
     case
 }
 
-/// Checks one example against brute search 2 and both forms of the archive; a
-/// case with strict bounds has no packed form.
+/// Checks one example against brute search 2 and the archive, unpacked and packed
+/// in each form that has a place for it.
 fn check_answer(case: &Case, capacity: usize, stated: Answer) {
     let length = faults::workspace(case.n, capacity);
     let searched = search(case, capacity).answer;
     assert_eq!(searched, stated, "brute search, Z {capacity}, {case:?}");
     let unpacked = archive::verdict_unpacked(case, capacity, &mut vec![7; length]);
     assert_eq!(unpacked, Ok(stated), "unpacked, Z {capacity}, {case:?}");
-    if parts_of(case) == 1 {
-        let packed = archive::verdict(&case.pack(), capacity, &mut vec![7; length]);
-        assert_eq!(packed, Ok(stated), "packed, Z {capacity}, {case:?}");
+    for &form in case.forms() {
+        let packed = archive::verdict(&case.pack(form), capacity, &mut vec![7; length]);
+        assert_eq!(packed, Ok(stated), "{form:?}, Z {capacity}, {case:?}");
     }
 }
 
 /// Times that begin with these.
 fn times(first: &[i64]) -> Times {
-    let mut times = [0; 7];
+    let mut times = [0; DEPARTURES];
     times[..first.len()].copy_from_slice(first);
     times
 }
@@ -197,7 +198,7 @@ fn latest_start_in_parts() {
 /// 0 < x(1) < ... < x(n) < 1 has times in (n + 1)ths, and in nothing coarser.
 #[test]
 fn parts_that_are_needed() {
-    for n in 1..=7 {
+    for n in 1..=DEPARTURES {
         let mut case = Case::empty(n, 1);
         for i in 0..n {
             case.times[i * n + i] = Some(0);
@@ -230,7 +231,7 @@ fn marks_that_do_not_count() {
     for (mark, present) in entries.strict.iter_mut().zip(&entries.present) {
         *mark = 255 * (1 - present);
     }
-    entries.strict[..49].fill(255);
+    entries.strict[..TIMES].fill(255);
     let stated = Answer {
         verdict: reached(2),
         parts: 1,
@@ -259,7 +260,8 @@ fn runs_in_parts() {
     let answer = search(&case, 128).answer;
     let text = "reached 2 of 3\n0 0 -1\n1 -1 0\n2 0 -1\n";
     assert_eq!(lines(&case, &answer), text);
-    let after = |case: &Case| archive::run_parts(case, &[0; 7], 2).map(|ran| ran.run.times);
+    let after =
+        |case: &Case| archive::run_parts(case, &[0; DEPARTURES], 2).map(|ran| ran.run.times);
     assert_eq!(after(&r(1)), Ok(times(&[8, 8])));
     assert_eq!(
         after(&from_to_less(r(1), &[(1, 2, 9)], &[])),
@@ -274,20 +276,24 @@ fn images_of_the_first_example() {
         let judged = Ok(());
         Ok(Run { judged, times })
     };
-    assert_eq!(archive::run(&r(1), &[0; 7], 0), after(0, 0));
-    assert_eq!(archive::run(&r(1), &[0; 7], 1), after(5, 3));
-    assert_eq!(archive::run(&r(1), &[0; 7], 2), after(8, 8));
+    assert_eq!(archive::run(&r(1), &[0; DEPARTURES], 0), after(0, 0));
+    assert_eq!(archive::run(&r(1), &[0; DEPARTURES], 1), after(5, 3));
+    assert_eq!(archive::run(&r(1), &[0; DEPARTURES], 2), after(8, 8));
 }
 
-/// The fault of a packed and of an unpacked call, 0 and 0 without one.
-fn both_faults(case: &Case) -> [(usize, usize); 2] {
+/// The fault of a call on each packed form and on the unpacked case, 0 and 0
+/// without one.
+fn all_faults(case: &Case) -> [(usize, usize); 3] {
+    let [old, wide] = [Form::Old, Form::Wide].map(|form| case.pack(form));
     let brute = [
-        faults::of_packed(&case.pack()).map(|_| ()),
+        faults::of_packed(&old).map(|_| ()),
+        faults::of_packed(&wide).map(|_| ()),
         faults::of_case(case),
     ];
     let length = faults::workspace(case.n, 1);
     let answers = [
-        archive::verdict(&case.pack(), 1, &mut vec![7; length]),
+        archive::verdict(&old, 1, &mut vec![7; length]),
+        archive::verdict(&wide, 1, &mut vec![7; length]),
         archive::verdict_unpacked(case, 1, &mut vec![7; length]),
     ];
     for (judged, answer) in brute.iter().zip(answers) {
@@ -304,15 +310,15 @@ fn edges_of_values() {
     for sign in [1, -1] {
         let mut case = o(1);
         case.times[0] = Some(sign * 86_400);
-        assert_eq!(both_faults(&case), [(0, 0); 2]);
+        assert_eq!(all_faults(&case), [(0, 0); 3]);
         case.times[0] = Some(sign * 86_401);
-        assert_eq!(both_faults(&case), [(4, 9), (4, 0)]);
+        assert_eq!(all_faults(&case), [(4, 9), (4, 13), (4, 0)]);
         let case = from_to(o(1), &[(0, 1, sign * 1_000_000)], &[]);
-        assert_eq!(both_faults(&case), [(0, 0); 2]);
+        assert_eq!(all_faults(&case), [(0, 0); 3]);
         let case = from_to(o(1), &[(0, 1, sign * 1_000_001)], &[]);
-        assert_eq!(both_faults(&case), [(6, 28), (6, 0)]);
+        assert_eq!(all_faults(&case), [(6, 28), (6, 32), (6, 0)]);
         let case = from_to(o(1), &[], &[(1, 0, sign * 1_000_001)]);
-        assert_eq!(both_faults(&case), [(6, 31), (6, 3)]);
+        assert_eq!(all_faults(&case), [(6, 31), (6, 35), (6, 3)]);
     }
 }
 
@@ -331,6 +337,28 @@ fn edges_of_the_call() {
     assert_eq!(judge(64, 23), Ok(fault(10)));
 }
 
+/// Fifteen departures, each on its own, reached at 1, and sixteen.
+#[test]
+fn edges_of_departures() {
+    for n in [8, 15] {
+        let mut case = Case::empty(n, 1);
+        for i in 0..n {
+            case.times[i * n + i] = Some(60);
+        }
+        check(&case, 1, reached(1), [0, 0]);
+        let length = faults::workspace(n, 1);
+        case.n = 16;
+        let two = Fault {
+            number: 2,
+            returned: 0,
+        };
+        let answer = archive::verdict_unpacked(&case, 1, &mut vec![7; length]);
+        assert_eq!(answer, Ok(refused(two)));
+        let run = archive::run(&case, &[0; DEPARTURES], 1);
+        assert_eq!(run.map(|run| run.judged), Ok(Err(two)));
+    }
+}
+
 #[test]
 fn what_a_planner_sees() {
     let seen = |bytes: &[u8]| printed(bytes);
@@ -339,17 +367,21 @@ fn what_a_planner_sees() {
     assert_eq!(seen(&[0x20, 0x40, 0x03, 0xC0, 0]), "refused 8 32\n");
     assert_eq!(seen(&[]), "refused 1 0\n");
     assert_eq!(seen(&[0]), "refused 2 0\n");
+    assert_eq!(seen(&[2]), "refused 1 7\n");
 }
 
 #[test]
 fn packed_lengths() {
     let mut case = Case::empty(1, 1);
     case.times[0] = Some(60);
-    assert_eq!(case.pack(), [0x20, 0x40, 0x03, 0xC0]);
-    let mut longest = Case::empty(7, 64);
-    longest.times.fill(Some(-1));
-    longest.start.fill(Some(most(1)));
-    longest.target.fill(Some(most(-1)));
-    assert_eq!(longest.pack().len(), 426);
-    assert_eq!(faults::of_packed(&longest.pack()), Ok(longest));
+    assert_eq!(case.pack(Form::Old), [0x20, 0x40, 0x03, 0xC0]);
+    assert_eq!(case.pack(Form::Wide), [0x02, 0x04, 0x00, 0x3C, 0x00]);
+    let mut old = Case::empty(7, 64);
+    old.times[..49].fill(Some(-1));
+    old.start[..56].fill(Some(most(1)));
+    old.target[..56].fill(Some(most(-1)));
+    for (form, case, length) in [(Form::Old, old, 426), (Form::Wide, longest(), 1916)] {
+        assert_eq!(case.pack(form).len(), length);
+        assert_eq!(faults::of_packed(&case.pack(form)), Ok(case));
+    }
 }

@@ -9,19 +9,20 @@
 
 static int32_t work[TRAMCHECK_WORKSPACE(ZONES)];
 
-/* One line: kind, fault, value and the seven times. */
+/* One line: kind, fault, value and the fifteen times. */
 static void print_line(uint32_t kind, size_t fault, size_t value,
-                       const int64_t times[7])
+                       const int64_t times[TRAMCHECK_DEPARTURES])
 {
-    printf("%u %zu %zu", (unsigned)kind, fault, value);
-    for (int i = 0; i < 7; i++)
+    printf("%u %zu %zu:", (unsigned)kind, fault, value);
+    for (int i = 0; i < TRAMCHECK_DEPARTURES; i++)
         printf(" %lld", (long long)times[i]);
     printf("\n");
 }
 
 /* The same, led by the parts of a second that the times are in. */
 static void print_parts(size_t parts, uint32_t kind, size_t fault,
-                        size_t value, const int64_t times[7])
+                        size_t value,
+                        const int64_t times[TRAMCHECK_DEPARTURES])
 {
     printf("of %zu: ", parts);
     print_line(kind, fault, value, times);
@@ -40,7 +41,7 @@ int main(void)
 {
     static const uint8_t bytes[] = {0x20, 0x40, 0x03, 0xC0};
     size_t fault, value, parts;
-    int64_t times[7];
+    int64_t times[TRAMCHECK_DEPARTURES];
 
     memset(work, 1, sizeof work);
     uint32_t kind = tramcheck_verdict(bytes, sizeof bytes, ZONES, work,
@@ -59,9 +60,9 @@ int main(void)
                                       work, TRAMCHECK_WORKSPACE(ZONES), &fault,
                                       &value, &parts, times);
     print_parts(parts, kind, fault, value, times);
-    present[105] = 1;
-    values[105] = -1;
-    present[106] = 1;
+    present[TRAMCHECK_TARGET] = 1;
+    values[TRAMCHECK_TARGET] = -1;
+    present[TRAMCHECK_TARGET + 1] = 1;
     kind = tramcheck_verdict_unpacked(1, 1, present, strict, values, ZONES,
                                       work, TRAMCHECK_WORKSPACE(ZONES), &fault,
                                       &value, &parts, times);
@@ -70,8 +71,8 @@ int main(void)
 
     /* Now the target can be met, and both patterns name the clock, so that
      * nothing is known later. */
-    present[105] = 0;
-    present[49] = 1;
+    present[TRAMCHECK_TARGET] = 0;
+    present[TRAMCHECK_START] = 1;
     kind = tramcheck_verdict_unpacked(1, 1, present, strict, values, ZONES,
                                       work, TRAMCHECK_WORKSPACE(ZONES), &fault,
                                       &value, &parts, times);
@@ -79,7 +80,7 @@ int main(void)
     printf("%d\n", kind == TRAMCHECK_CLEAR);
 
     /* A run over ten cycles, and one that is refused. */
-    int64_t start[7] = {-7};
+    int64_t start[TRAMCHECK_DEPARTURES] = {-7};
     kind = tramcheck_run(1, present, values, start, 10, &fault, &value, times);
     print_line(kind, fault, value, times);
     kind = tramcheck_run(1, present, values, start, 65, &fault, &value, times);
@@ -89,14 +90,14 @@ int main(void)
     /* The first case read, written to an output with a byte more, and to one
      * that is too short. */
     size_t n, horizon;
-    uint8_t out[5] = {1, 2, 3, 4, 5};
+    uint8_t out[TRAMCHECK_BYTES_WIDE] = {1, 2, 3, 4, 5};
     memset(strict, 1, sizeof strict);
     kind = tramcheck_read(bytes, sizeof bytes, &n, &horizon, present, strict,
                           values, &fault, &value);
     printf("%u %zu %zu: %zu %zu, %u %u %lld\n", (unsigned)kind, fault, value,
            n, horizon, present[0], strict[0], (long long)values[0]);
-    kind = tramcheck_write(n, horizon, present, strict, values, out,
-                           sizeof out, &fault, &value);
+    kind = tramcheck_write(n, horizon, present, strict, values, out, 5, &fault,
+                           &value);
     printf("%u %zu %zu: %d %u\n", (unsigned)kind, fault, value,
            memcmp(out, bytes, sizeof bytes), out[4]);
     kind = tramcheck_write(n, horizon, present, strict, values, out, 3, &fault,
@@ -125,7 +126,7 @@ int main(void)
     }
 
     /* From between 0 and 1 to between 90 and 91, all of them strict: in halves
-     * of a second, as is the run. No packed case has such bounds. */
+     * of a second, as is the run. The old form has no place for such bounds. */
     memset(strict + TRAMCHECK_START, 1, 2);
     memset(strict + TRAMCHECK_TARGET, 1, 2);
     values[TRAMCHECK_START + 1] = 1;
@@ -140,6 +141,41 @@ int main(void)
     print_parts(parts, kind, fault, value, times);
     kind = tramcheck_write(n, horizon, present, strict, values, out, 0, &fault,
                            &value);
+    printf("%u %zu %zu\n", (unsigned)kind, fault, value);
+
+    /* The wide form has: written, read again, and its verdict. */
+    kind = tramcheck_write_wide(n, horizon, present, strict, values, out,
+                                sizeof out, &fault, &value);
+    printf("%u %zu %zu\n", (unsigned)kind, fault, value);
+    size_t length = value;
+    memset(strict, 0, sizeof strict);
+    kind = tramcheck_read(out, length, &n, &horizon, present, strict, values,
+                          &fault, &value);
+    printf("%u %zu %zu: %zu %zu, %u %u %lld\n", (unsigned)kind, fault, value,
+           n, horizon, present[TRAMCHECK_TARGET + 1],
+           strict[TRAMCHECK_TARGET + 1],
+           (long long)values[TRAMCHECK_TARGET + 1]);
+    kind = tramcheck_verdict(out, length, ZONES, work,
+                             TRAMCHECK_WORKSPACE(ZONES), &fault, &value,
+                             &parts, times);
+    print_parts(parts, kind, fault, value, times);
+
+    /* Fifteen departures, each by itself and 60 seconds later in each cycle:
+     * a run, and what both writers say. */
+    n = TRAMCHECK_DEPARTURES;
+    memset(present, 0, sizeof present);
+    for (size_t i = 0; i < n; i++) {
+        present[i * n + i] = 1;
+        values[i * n + i] = 60;
+        start[i] = (int64_t)i;
+    }
+    kind = tramcheck_run(n, present, values, start, 64, &fault, &value, times);
+    print_line(kind, fault, value, times);
+    kind = tramcheck_write(n, horizon, present, strict, values, out,
+                           sizeof out, &fault, &value);
+    printf("%u %zu %zu\n", (unsigned)kind, fault, value);
+    kind = tramcheck_write_wide(n, horizon, present, strict, values, out, 0,
+                                &fault, &value);
     printf("%u %zu %zu\n", (unsigned)kind, fault, value);
     return 0;
 }

@@ -1,14 +1,18 @@
 //! The program: what it prints, byte for byte, however its input and output
 //! are set up.
 
-use evidence::case::{most, pair, Case};
+use evidence::case::{less, most, pair, Case, Form, DEPARTURES};
 use evidence::checks::named;
 use evidence::damage;
 use evidence::faults;
-use evidence::random::{crowded_trial, trial, Random};
+use evidence::longest::{longest, start_of_longest};
+use evidence::random::wide::any_trial;
+use evidence::random::{crowded_trial, trial, Draw, Random};
 use evidence::selections::search;
-use evidence::text::{printed, CAPACITY};
-use std::io::{pipe, ErrorKind, PipeReader, Read, Write};
+use evidence::text::{capacity, printed};
+use std::fs::{self, File};
+use std::io::{pipe, ErrorKind, PipeReader, Read, Seek, Write};
+use std::ops::Range;
 use std::os::fd::{AsRawFd, RawFd};
 use std::os::unix::process::CommandExt;
 use std::path::PathBuf;
@@ -86,17 +90,28 @@ fn prints(bytes: &[u8]) -> String {
     })
 }
 
-/// A case that is reached at 64, and whose text is longer than 4,096 bytes.
-fn long_case() -> Case {
-    let mut case = Case::empty(7, 64);
-    for i in 0..7 {
-        case.times[8 * i] = Some(if i == 0 { 15_625 } else { -86_400 });
+/// Words for a failed comparison.
+fn words(seed: u64, bytes: &[u8]) -> String {
+    let zones = faults::of_packed(bytes).map_or(0, |case| capacity(case.n));
+    named(seed, bytes, zones)
+}
+
+/// A case of n departures that is reached at 64, and whose text is long.
+fn late_case(n: usize) -> Case {
+    let mut case = Case::empty(n, 64);
+    for i in 0..n {
+        case.times[i * n + i] = Some(if i == 0 { 15_625 } else { -86_400 });
         let first = if i == 0 { 0 } else { -1_000_000 };
-        case.start[pair(7, i + 1, 0)] = Some(most(first));
-        case.start[pair(7, 0, i + 1)] = Some(most(-first));
+        case.start[pair(n, i + 1, 0)] = Some(most(first));
+        case.start[pair(n, 0, i + 1)] = Some(most(-first));
     }
-    case.target[pair(7, 0, 1)] = Some(most(-1_000_000));
+    case.target[pair(n, 0, 1)] = Some(most(-1_000_000));
     case
+}
+
+/// The longest text of the old form, more than 4,096 bytes.
+fn long_case() -> Case {
+    late_case(7)
 }
 
 #[test]
@@ -107,17 +122,16 @@ fn stated_inputs() {
     assert_eq!(prints(&[0x20, 0x40, 0x03, 0xC0, 0]), "refused 8 32\n");
     assert_eq!(prints(&[]), "refused 1 0\n");
     assert_eq!(prints(&[0]), "refused 2 0\n");
+    assert_eq!(prints(&[2]), "refused 1 7\n");
 }
 
-#[test]
-fn random_cases() {
+fn compare_random(form: Form, draw: Draw) {
     let kinds = ["reached", "clear", "never", "refused 11"];
     let mut counts = [0; 4];
     for seed in 6_000_000..6_000_300 {
-        let bytes = trial(&mut Random::new(seed)).case.pack();
+        let bytes = draw(&mut Random::new(seed)).case.pack(form);
         let text = printed(&bytes);
-        let words = || named(seed, &bytes, CAPACITY);
-        assert_eq!(prints(&bytes), text, "{}", words());
+        assert_eq!(prints(&bytes), text, "{}", words(seed, &bytes));
         for (kind, count) in kinds.iter().zip(&mut counts) {
             *count += usize::from(text.starts_with(kind));
         }
@@ -127,39 +141,135 @@ fn random_cases() {
 }
 
 #[test]
-fn damaged_cases() {
+fn random_cases() {
+    compare_random(Form::Old, trial);
+}
+
+/// Up to fifteen departures, with strict bounds or without.
+#[test]
+fn random_wide_cases() {
+    compare_random(Form::Wide, any_trial);
+}
+
+fn compare_damaged(form: Form, draw: Draw) {
     let mut seed = 7_000_000;
     let mut left = 200;
     while left > 0 {
         seed += 1;
-        let bytes = damage::packed(&mut Random::new(seed)).bytes;
+        let bytes = damage::packed(&mut Random::new(seed), form, draw).bytes;
         if faults::of_packed(&bytes).is_err() {
-            let words = || named(seed, &bytes, CAPACITY);
-            assert_eq!(prints(&bytes), printed(&bytes), "{}", words());
+            assert_eq!(prints(&bytes), printed(&bytes), "{}", words(seed, &bytes));
             left -= 1;
         }
     }
 }
 
 #[test]
+fn damaged_cases() {
+    compare_damaged(Form::Old, trial);
+}
+
+#[test]
+fn damaged_wide_cases() {
+    compare_damaged(Form::Wide, any_trial);
+}
+
+#[test]
 fn long_output() {
-    let bytes = long_case().pack();
+    let bytes = long_case().pack(Form::Old);
     let expected = printed(&bytes);
     assert!(expected.starts_with("reached 64\n") && expected.len() > 4096);
     assert_eq!(prints(&bytes), expected);
 }
 
-/// The program has room for exactly 128 zones: a longest list of 128 fits and
-/// one of 129 does not. The seeds were chosen for these lengths.
+/// In sixteenths of a second.
+#[test]
+fn long_output_of_fifteen_departures() {
+    let mut case = late_case(15);
+    case.target[pair(15, 0, 1)] = Some(less(-999_999));
+    let bytes = case.pack(Form::Wide);
+    let expected = printed(&bytes);
+    assert!(expected.starts_with("reached 64 of 16\n") && expected.len() > 8192);
+    assert_eq!(prints(&bytes), expected);
+}
+
+/// Up to 7 departures the program has room for exactly 128 zones, in both forms: a
+/// longest list of 128 fits and one of 129 does not. The seeds were chosen for
+/// these lengths.
 #[test]
 fn room_for_zones() {
     for (seed, longest, said) in [(63, 128, "clear 6\n"), (106, 129, "refused 11 6\n")] {
         let case = crowded_trial(&mut Random::new(seed), 4, 6).case;
         let lengths = search(&case, 4096).lengths;
         assert_eq!(lengths.iter().max(), Some(&longest), "seed {seed}");
-        let bytes = case.pack();
-        assert_eq!(prints(&bytes), said, "{}", named(seed, &bytes, CAPACITY));
+        for form in [Form::Old, Form::Wide] {
+            let bytes = case.pack(form);
+            assert_eq!(prints(&bytes), said, "{}", words(seed, &bytes));
+        }
     }
+}
+
+/// All times are 0 and patterns free. The first rows have the columns of these
+/// ranges, later ones their own, so that list 1 has a zone for each selection.
+fn open_case(n: usize, columns: &[Range<usize>]) -> Case {
+    let mut case = Case::empty(n, 1);
+    for row in 0..n {
+        for column in columns.get(row).cloned().unwrap_or(row..row + 1) {
+            case.times[row * n + column] = Some(0);
+        }
+    }
+    case
+}
+
+/// Above 7 departures it has room for exactly 32.
+#[test]
+fn room_for_zones_above_seven() {
+    let pairs = |rows: usize| (0..rows).map(|row| row..row + 2).collect::<Vec<_>>();
+    for (n, columns, zones) in [
+        (7, pairs(6), 64),
+        (8, pairs(5), 32),
+        (8, pairs(6), 64),
+        (15, vec![0..8, 8..12], 32),
+        (15, vec![0..11, 11..14], 33),
+    ] {
+        let case = open_case(n, &columns);
+        assert_eq!(search(&case, 4096).lengths, [1, zones]);
+        let zeros = " 0".repeat(n);
+        let said = match zones <= capacity(n) {
+            true => format!("reached 1\n0{zeros}\n1{zeros}\n"),
+            false => "refused 11 1\n".to_string(),
+        };
+        assert_eq!(prints(&case.pack(Form::Wide)), said, "{n}, {zones}");
+    }
+}
+
+/// The longest case is read to its end, and no further than a byte behind it.
+#[test]
+fn longest_case() {
+    let bytes = longest().pack(Form::Wide);
+    assert_eq!(bytes.len(), 1916);
+    let start: Vec<String> = start_of_longest().map(|time| time.to_string()).into();
+    let then = ["15"; DEPARTURES].join(" ");
+    let said = format!("reached 1 of 16\n0 {}\n1 {then}\n", start.join(" "));
+    assert_eq!(prints(&bytes), said);
+    assert_eq!(prints(&bytes[..1915]), "refused 1 15305\n");
+    assert_eq!(prints(&[&bytes[..], &[0]].concat()), "refused 8 15328\n");
+}
+
+/// However long the input is, only its first 1,917 bytes are read.
+#[test]
+fn bytes_that_are_read() {
+    let mut bytes = longest().pack(Form::Wide);
+    bytes.resize(100_000, 0);
+    let path = PathBuf::from(env!("CARGO_TARGET_TMPDIR")).join("long-input");
+    fs::write(&path, &bytes).expect("a file");
+    let mut file = File::open(&path).expect("the file");
+    let mut command = program();
+    command.stdin(file.try_clone().expect("a second handle"));
+    let child = command.stdout(Stdio::piped()).spawn();
+    let said = output(child.expect("the program starts"));
+    assert_eq!(said, "refused 8 15328\n");
+    assert_eq!(file.stream_position().expect("a place"), 1917);
 }
 
 #[test]
@@ -168,15 +278,16 @@ fn a_million_bytes() {
     assert_eq!(prints(&bytes), "refused 2 0\n");
     bytes[..4].copy_from_slice(&[0x20, 0x40, 0x03, 0xC0]);
     assert_eq!(prints(&bytes), "refused 8 32\n");
-    let mut bytes = long_case().pack();
-    let place = 8 * bytes.len();
-    bytes.resize(1_000_000, 255);
-    assert_eq!(prints(&bytes), format!("refused 8 {place}\n"));
+    for mut bytes in [long_case().pack(Form::Old), longest().pack(Form::Wide)] {
+        let place = 8 * bytes.len();
+        bytes.resize(1_000_000, 255);
+        assert_eq!(prints(&bytes), format!("refused 8 {place}\n"));
+    }
 }
 
 #[test]
 fn input_in_pieces() {
-    let bytes = long_case().pack();
+    let bytes = long_case().pack(Form::Old);
     let mut child = started();
     let input = child.stdin.take().expect("the input is a pipe");
     feed(input, &bytes, 1, Duration::from_millis(2));
@@ -200,7 +311,7 @@ fn closed_input() {
 
 #[test]
 fn input_that_does_not_wait() {
-    let bytes = long_case().pack();
+    let bytes = long_case().pack(Form::Old);
     let (reader, writer) = pipe().expect("a pipe");
     never_wait(&reader);
     let mut command = program();
@@ -229,7 +340,7 @@ fn drain(mut reader: PipeReader) -> Vec<u8> {
 
 #[test]
 fn full_output_that_does_not_wait() {
-    let bytes = long_case().pack();
+    let bytes = long_case().pack(Form::Old);
     let (reader, mut writer) = pipe().expect("a pipe");
     never_wait(&writer);
     let mut filled = 0;

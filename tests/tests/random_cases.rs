@@ -1,10 +1,11 @@
 //! Random cases: the archive against both brute searches.
 
 use evidence::archive::{self, Answer, Run, RunInParts, Verdict};
-use evidence::case::{Case, Times};
+use evidence::case::{Case, Times, DEPARTURES};
 use evidence::checks::{named, named_unpacked, noisy, unmet_up_to, Lent};
 use evidence::enumeration::{first_in_box, image, in_parts, leads, tried_parts};
 use evidence::faults;
+use evidence::random::wide::{strict_wide_trial, wide_trial};
 use evidence::random::{
     crowded_trial, dense_trial, sharper, strict_dense_trial, strict_trial, trial, Draw, Random,
     Trial,
@@ -12,9 +13,11 @@ use evidence::random::{
 use evidence::selections::{parts_of, search, Outcome};
 use std::thread;
 
-/// Cases without a strict bound, and with one.
+/// Cases of up to 7 departures without a strict bound, and with one; and as many
+/// of 8 to 15 departures of each kind.
 const CASES: u64 = 24_000;
 const MARKED: u64 = 12_000;
+const WIDE: u64 = 4_000;
 const WORKERS: u64 = 4;
 
 /// Calls by outcome: reached at 1, reached later, clear, never by a repeated
@@ -37,23 +40,23 @@ fn workspace(random: &mut Random, case: &Case, capacity: usize) -> Lent {
     Lent::new(random, faults::workspace(case.n, capacity) + more)
 }
 
-/// The packed case must give the expected answer and leave the workspace as it
-/// must be.
+/// The case packed in each form must give the expected answer and leave the
+/// workspace as it must be.
 fn compare_packed(seed: u64, random: &mut Random, case: &Case, capacity: usize, expected: &Answer) {
-    let bytes = case.pack();
-    let mut lent = workspace(random, case, capacity);
-    let packed = archive::verdict(&bytes, capacity, lent.part());
-    let words = || named(seed, &bytes, capacity);
-    assert_eq!(packed, Ok(*expected), "archive, brute search: {}", words());
-    assert_eq!(lent.right_after(expected), Ok(()), "{}", words());
+    for &form in case.forms() {
+        let bytes = case.pack(form);
+        let mut lent = workspace(random, case, capacity);
+        let packed = archive::verdict(&bytes, capacity, lent.part());
+        let words = || named(seed, &bytes, capacity);
+        assert_eq!(packed, Ok(*expected), "archive, brute search: {}", words());
+        assert_eq!(lent.right_after(expected), Ok(()), "{}", words());
+    }
 }
 
 /// The unpacked case must do so too, and a run from the start that it hands back
 /// must give the times of that start at the cycle reached.
 fn compare(seed: u64, random: &mut Random, case: &Case, capacity: usize, expected: &Answer) {
-    if parts_of(case) == 1 {
-        compare_packed(seed, random, case, capacity, expected);
-    }
+    compare_packed(seed, random, case, capacity, expected);
     let words = || named_unpacked(seed, case, capacity);
     let mut lent = workspace(random, case, capacity);
     let entries = noisy(random, case);
@@ -85,13 +88,15 @@ fn parts_looked_at(case: &Case) -> Vec<usize> {
     }
 }
 
-/// How far a box goes, in parts of a second.
+/// How far a box goes, in parts of a second. With many departures only its centre
+/// is looked at.
 fn radius(n: usize, parts: usize) -> i64 {
     let second = parts as i64;
-    match parts {
-        1 => [0, 12, 4, 2, 1, 0, 0, 0][n],
-        _ => [0, 6 * second, 2 * second, second / 2 + 1, 1, 1, 0, 0][n],
-    }
+    let radii = match parts {
+        1 => [12, 4, 2, 1, 0],
+        _ => [6 * second, 2 * second, second / 2 + 1, 1, 1],
+    };
+    radii.get(n - 1).copied().unwrap_or(0)
 }
 
 /// The hidden start in other parts of a second, or the last ones before it.
@@ -113,7 +118,7 @@ fn enumerate(seed: u64, trial: &Trial, capacity: usize, answer: &Answer) {
     let limit = unmet_up_to(&answer.verdict);
     for parts in parts_looked_at(case) {
         let scaled = in_parts(case, parts);
-        for centre in [[0; 7], near_in(trial, parts)] {
+        for centre in [[0; DEPARTURES], near_in(trial, parts)] {
             let met = first_in_box(&scaled, &centre, radius(case.n, parts), limit);
             assert_eq!(met, None, "met too early in {parts} parts: {}", words());
         }
@@ -199,8 +204,9 @@ fn long_lists() {
     assert!(clear.min(full) >= 10, "{counts:?}");
 }
 
-/// Compares random cases in several threads.
-fn agree(cases: u64, draw: Draw) {
+/// Compares random cases in several threads. Every outcome makes up at least one
+/// call in so many.
+fn agree(cases: u64, draw: Draw, one_in: usize) {
     let counts = thread::scope(|scope| {
         let workers: Vec<_> = (0..WORKERS)
             .map(|number| scope.spawn(move || worker(number, cases, draw)))
@@ -216,19 +222,28 @@ fn agree(cases: u64, draw: Draw) {
     });
     let total: usize = counts.iter().sum();
     println!("reached 1, reached later, clear, never, dry, full: {counts:?} of {total}");
-    // Every outcome makes up at least a hundredth of all calls.
     assert!(
-        counts.iter().all(|&count| 100 * count >= total),
+        counts.iter().all(|&count| one_in * count >= total),
         "{counts:?} of {total}"
     );
 }
 
 #[test]
 fn archive_and_brute_searches_agree() {
-    agree(CASES, trial);
+    agree(CASES, trial, 100);
 }
 
 #[test]
 fn archive_and_brute_searches_agree_on_marks() {
-    agree(MARKED, strict_trial);
+    agree(MARKED, strict_trial, 100);
+}
+
+#[test]
+fn archive_and_brute_searches_agree_on_many_departures() {
+    agree(WIDE, wide_trial, 100);
+}
+
+#[test]
+fn archive_and_brute_searches_agree_on_many_departures_with_marks() {
+    agree(WIDE, strict_wide_trial, 200);
 }

@@ -1,11 +1,13 @@
-//! Cases written and read: the archive against the packer and the reader of
-//! this package, both written from document 01.
+//! Cases written and read in both forms: the archive against the packer and the
+//! reader of this package, both written from document 01 and the requests.
 
 use evidence::archive::{self, Fault, Reading};
-use evidence::case::{less, most, Bound, Case};
+use evidence::case::{less, most, Bound, Case, Form, BOUNDS, ENTRIES, START};
 use evidence::checks::{named, named_unpacked, noisy};
 use evidence::damage;
 use evidence::faults;
+use evidence::longest::longest;
+use evidence::random::wide::{any_trial, wide_trial};
 use evidence::random::{strict_trial, trial, Draw, Random};
 
 /// Bytes on each side of an output that no call may touch.
@@ -61,17 +63,16 @@ fn trimmed(case: &Case) -> Case {
     plain
 }
 
-#[test]
-fn there_and_back() {
-    for seed in 4_000_000..4_020_000 {
+fn compare_there_and_back(cases: u64, form: Form, draw: Draw) {
+    for seed in 4_000_000..4_000_000 + cases {
         let mut random = Random::new(seed);
-        let case = trial(&mut random).case;
-        let bytes = case.pack();
+        let case = draw(&mut random).case;
+        let bytes = case.pack(form);
         let words = || named(seed, &bytes, 0);
         let more = random.one_of(&[0, 0, 1, 40]);
         let mut output = Output::new(&mut random, bytes.len() + more);
         let entries = noisy(&mut random, &case);
-        let written = archive::write_entries(case.n, case.horizon, &entries, output.part());
+        let written = archive::write_entries(form, case.n, case.horizon, &entries, output.part());
         assert_eq!(written, Ok(Ok(bytes.len())), "{}", words());
         assert!(output.holds(&bytes), "other bytes: {}", words());
         let reading = archive::read(&output.part()[..bytes.len()]).expect("an outcome");
@@ -79,21 +80,30 @@ fn there_and_back() {
         assert_eq!(reading, expected, "{}", words());
         let mut again = Output::new(&mut random, bytes.len());
         let (n, horizon) = (reading.n, reading.horizon);
-        let written = archive::write_entries(n, horizon, &reading.entries, again.part());
+        let written = archive::write_entries(form, n, horizon, &reading.entries, again.part());
         assert_eq!(written, Ok(Ok(bytes.len())), "again: {}", words());
         assert!(again.holds(&bytes), "other bytes again: {}", words());
     }
 }
 
 #[test]
-fn room() {
+fn there_and_back() {
+    compare_there_and_back(20_000, Form::Old, trial);
+}
+
+#[test]
+fn there_and_back_in_the_wide_form() {
+    compare_there_and_back(10_000, Form::Wide, any_trial);
+}
+
+fn compare_room(form: Form, draw: Draw) {
     for seed in 4_100_000..4_102_000 {
         let mut random = Random::new(seed);
-        let case = trial(&mut random).case;
-        let bytes = case.pack();
+        let case = draw(&mut random).case;
+        let bytes = case.pack(form);
         for length in [0, random.below(bytes.len()), bytes.len() - 1, bytes.len()] {
             let mut output = Output::new(&mut random, length);
-            let written = archive::write(&case, output.part());
+            let written = archive::write(form, &case, output.part());
             let short = Fault {
                 number: 14,
                 returned: bytes.len(),
@@ -109,34 +119,47 @@ fn room() {
     }
 }
 
-/// Damaged cases, most of them with an output that is too short: the case's own
+#[test]
+fn room() {
+    compare_room(Form::Old, trial);
+}
+
+#[test]
+fn room_in_the_wide_form() {
+    compare_room(Form::Wide, any_trial);
+}
+
+/// What writing a case to an output of some length must give.
+fn written(form: Form, case: &Case, length: usize) -> Result<Vec<u8>, Fault> {
+    faults::of_written(form, case)?;
+    let bytes = case.pack(form);
+    let returned = bytes.len();
+    match length < returned {
+        true => Err(Fault {
+            number: 14,
+            returned,
+        }),
+        false => Ok(bytes),
+    }
+}
+
+/// Damaged cases, many of them with an output that is too short: the case's own
 /// fault is the one that is told, and the output stays as it was.
-fn compare_damaged(draw: Draw, numbers: &[usize]) {
+fn compare_damaged(cases: u64, form: Form, draw: Draw, numbers: &[usize]) {
     let mut counts = [0; 17];
-    for seed in 4_200_000..4_220_000 {
+    for seed in 4_200_000..4_200_000 + cases {
         let mut random = Random::new(seed);
         let case = damage::unpacked(&mut random, draw).case;
         let length = random.below(500);
-        let expected = match faults::of_written(&case) {
-            Err(fault) => Err(fault),
-            Ok(()) if length < case.pack().len() => Err(Fault {
-                number: 14,
-                returned: case.pack().len(),
-            }),
-            Ok(()) => Ok(case.pack()),
-        };
+        let expected = written(form, &case, length);
         let mut output = Output::new(&mut random, length);
         let entries = noisy(&mut random, &case);
-        let written = archive::write_entries(case.n, case.horizon, &entries, output.part());
+        let told = archive::write_entries(form, case.n, case.horizon, &entries, output.part());
         let words = || format!("{length} lent, {}", named_unpacked(seed, &case, 0));
-        let front = expected.clone().unwrap_or_default();
-        assert_eq!(
-            written,
-            Ok(expected.clone().map(|bytes| bytes.len())),
-            "{}",
-            words()
-        );
-        assert!(output.holds(&front), "other bytes: {}", words());
+        let count = expected.as_ref().map(Vec::len).map_err(|fault| *fault);
+        assert_eq!(told, Ok(count), "{}", words());
+        let front = expected.as_deref().unwrap_or_default();
+        assert!(output.holds(front), "other bytes: {}", words());
         counts[expected.map_or_else(|fault| fault.number, |_| 0)] += 1;
     }
     println!("faults 0 to 16: {counts:?}");
@@ -147,12 +170,23 @@ fn compare_damaged(draw: Draw, numbers: &[usize]) {
 
 #[test]
 fn damaged_cases() {
-    compare_damaged(trial, &[0, 2, 3, 4, 5, 6, 14]);
+    compare_damaged(20_000, Form::Old, trial, &[0, 2, 3, 4, 5, 6, 14]);
 }
 
 #[test]
 fn damaged_cases_with_marks() {
-    compare_damaged(strict_trial, &[2, 3, 4, 5, 6, 16]);
+    compare_damaged(20_000, Form::Old, strict_trial, &[2, 3, 4, 5, 6, 16]);
+}
+
+/// More than the old form has a place for: what is not 2 is 16.
+#[test]
+fn damaged_cases_of_many_departures() {
+    compare_damaged(3_000, Form::Old, wide_trial, &[2, 16]);
+}
+
+#[test]
+fn damaged_cases_in_the_wide_form() {
+    compare_damaged(10_000, Form::Wide, any_trial, &[0, 2, 3, 4, 5, 6, 14]);
 }
 
 /// Gives a number to a bound, which keeps its mark.
@@ -169,9 +203,10 @@ fn mark(bound: &mut Option<Bound>) {
 /// What is done to a case of two departures, and the fault that it is.
 type Damage = (fn(&mut Case), usize, usize);
 
-/// In the order in which faults are judged.
-const DAMAGES: [Damage; 14] = [
-    (|case| case.n = 8, 2, 0),
+/// The faults of the old form, in the order in which they are judged.
+const DAMAGES: [Damage; 15] = [
+    (|case| case.n = 16, 2, 0),
+    (|case| case.n = 8, 16, 0),
     (|case| case.horizon = 65, 3, 0),
     (|case| case.times[1] = Some(-86_401), 4, 1),
     (|case| case.times[2..4].fill(None), 5, 2),
@@ -187,28 +222,41 @@ const DAMAGES: [Damage; 14] = [
     (|case| mark(&mut case.target[5]), 16, 11),
 ];
 
-/// Each fault of a case alone and with each later one, with an output that is
+/// Each of these faults alone and with each later one, with an output that is
 /// long enough, one byte short and empty: the first is told.
-#[test]
-fn pairs_of_faults() {
+fn pairs_of(form: Form, damages: &[Damage]) {
     let mut random = Random::new(4_400_000);
     let mut whole = Case::empty(2, 3);
     whole.times[..4].copy_from_slice(&[Some(2), Some(5), Some(3), Some(3)]);
-    let size = whole.pack().len();
-    for (at, (damage, number, returned)) in DAMAGES.into_iter().enumerate() {
-        for (other, ..) in &DAMAGES[at..] {
+    let size = whole.pack(form).len();
+    for (at, &(damage, number, returned)) in damages.iter().enumerate() {
+        for (other, ..) in &damages[at..] {
             let mut case = whole;
-            damage(&mut case);
+            // The earlier fault last: n is 16 or 8, and not both.
             other(&mut case);
+            damage(&mut case);
             for length in [500, size - 1, 0] {
                 let mut output = Output::new(&mut random, length);
-                let written = archive::write(&case, output.part());
+                let written = archive::write(form, &case, output.part());
                 let fault = Fault { number, returned };
                 assert_eq!(written, Ok(Err(fault)), "{length} lent, {case:?}");
                 assert!(output.holds(&[]), "{length} lent, {case:?}");
             }
         }
     }
+}
+
+#[test]
+fn pairs_of_faults() {
+    pairs_of(Form::Old, &DAMAGES);
+}
+
+/// The wide form has a place for what the old one refuses as 16.
+#[test]
+fn pairs_of_faults_in_the_wide_form() {
+    let refused = |&&(_, number, _): &&Damage| number != 16;
+    let damages: Vec<Damage> = DAMAGES.iter().filter(refused).copied().collect();
+    pairs_of(Form::Wide, &damages);
 }
 
 /// Marks of times, of absent bounds and of bounds beyond n are not refused; the
@@ -218,25 +266,26 @@ fn marks_that_do_not_count() {
     for seed in 4_500_000..4_502_000 {
         let mut random = Random::new(seed);
         let case = trial(&mut random).case;
-        let bytes = case.pack();
+        let bytes = case.pack(Form::Old);
         let words = || named(seed, &bytes, 0);
         let mut entries = noisy(&mut random, &trimmed(&case));
         let bounds = case.n * (case.n + 1);
-        let counts = |place: usize| (49..161).contains(&place) && (place - 49) % 56 < bounds;
-        for place in 0..161 {
+        let counts = |place: usize| place >= START && (place - START) % BOUNDS < bounds;
+        for place in 0..ENTRIES {
             let present = counts(place) && entries.present[place] != 0;
             entries.strict[place] = if present { 0 } else { 255 };
         }
         let mut output = Output::new(&mut random, bytes.len());
-        let written = archive::write_entries(case.n, case.horizon, &entries, output.part());
+        let (n, horizon) = (case.n, case.horizon);
+        let written = archive::write_entries(Form::Old, n, horizon, &entries, output.part());
         assert_eq!(written, Ok(Ok(bytes.len())), "{}", words());
         assert!(output.holds(&bytes), "other bytes: {}", words());
         let Some(first) = case.bounds().position(Option::is_some) else {
             continue;
         };
-        entries.strict = [255; 161];
+        entries.strict = [255; ENTRIES];
         let mut output = Output::new(&mut random, bytes.len());
-        let written = archive::write_entries(case.n, case.horizon, &entries, output.part());
+        let written = archive::write_entries(Form::Old, n, horizon, &entries, output.part());
         let strict = Fault {
             number: 16,
             returned: first,
@@ -246,11 +295,10 @@ fn marks_that_do_not_count() {
     }
 }
 
-#[test]
-fn damaged_bytes() {
+fn compare_damaged_bytes(cases: u64, form: Form, draw: Draw) {
     let mut counts = [0; 15];
-    for seed in 4_300_000..4_320_000 {
-        let bytes = damage::packed(&mut Random::new(seed)).bytes;
+    for seed in 4_300_000..4_300_000 + cases {
+        let bytes = damage::packed(&mut Random::new(seed), form, draw).bytes;
         let expected = match faults::of_packed(&bytes) {
             Ok(case) => read_as(&case, Ok(bytes.len())),
             Err(fault) => read_as(&Case::empty(0, 0), Err(fault)),
@@ -265,15 +313,61 @@ fn damaged_bytes() {
     }
 }
 
-/// Seven departures with every entry there: the longest case has 426 bytes.
 #[test]
-fn longest() {
-    let mut case = Case::empty(7, 64);
-    case.times = [Some(-86_400); 49];
-    case.start = [Some(most(-1_000_000)); 56];
-    case.target = [Some(most(1_000_000)); 56];
-    let mut output = [0; 427];
-    assert_eq!(archive::write(&case, &mut output), Ok(Ok(426)));
-    assert_eq!(output[..426], case.pack()[..]);
-    assert_eq!(output[426], 0);
+fn damaged_bytes() {
+    compare_damaged_bytes(20_000, Form::Old, trial);
+}
+
+#[test]
+fn damaged_bytes_in_the_wide_form() {
+    compare_damaged_bytes(10_000, Form::Wide, any_trial);
+}
+
+/// The bits of the wide form, one field after the other: three zero bits, n = 2,
+/// N - 1 = 5, the table 2 - / - -1, and of the pairs of the start only the third
+/// and the fourth bounded, less than -3 and at most 3.
+#[test]
+fn bits_of_the_wide_form() {
+    let mut case = Case::empty(2, 6);
+    (case.times[0], case.times[3]) = (Some(2), Some(-1));
+    (case.start[2], case.start[3]) = (Some(less(-3)), Some(most(3)));
+    let fields = [
+        "000 0010 000101",
+        "1 000000000000000010 0 0 1 111111111111111111",
+        "0 0 11 111111111111111111101 10 000000000000000000011 0 0",
+        "0 0 0 0 0 0",
+    ];
+    let bits: Vec<u8> = fields.concat().bytes().filter(|bit| *bit != b' ').collect();
+    let byte =
+        |bits: &[u8]| (0..8).fold(0, |byte, k| 2 * byte + u8::from(bits.get(k) == Some(&b'1')));
+    let bytes: Vec<u8> = bits.chunks(8).map(byte).collect();
+    assert_eq!(case.pack(Form::Wide), bytes);
+    assert_eq!(faults::of_packed(&bytes), Ok(case));
+    let mut output = vec![0; bytes.len()];
+    let written = archive::write(Form::Wide, &case, &mut output);
+    assert_eq!((written, output), (Ok(Ok(bytes.len())), bytes));
+}
+
+/// An older reader refuses the wide form by number 2: its first three bits are 0.
+#[test]
+fn three_zero_bits() {
+    for seed in 4_600_000..4_601_000 {
+        let case = any_trial(&mut Random::new(seed)).case;
+        assert_eq!(case.pack(Form::Wide)[0] >> 5, 0, "seed {seed}");
+    }
+}
+
+/// Every entry is there: the longest cases have 426 and 1,916 bytes.
+#[test]
+fn longest_cases() {
+    let mut old = Case::empty(7, 64);
+    old.times[..49].fill(Some(-86_400));
+    old.start[..56].fill(Some(most(-1_000_000)));
+    old.target[..56].fill(Some(most(1_000_000)));
+    for (form, case, length) in [(Form::Old, old, 426), (Form::Wide, longest(), 1916)] {
+        let mut output = [0; 2000];
+        assert_eq!(archive::write(form, &case, &mut output), Ok(Ok(length)));
+        assert_eq!(output[..length], case.pack(form)[..]);
+        assert_eq!(output[length..], [0; 2000][length..]);
+    }
 }

@@ -11,6 +11,7 @@ use Rattle.ints.specs.declared.Seconds.{Seconds}
 use Rattle.model.specs.declared.Slot.{Slot}
 use Rattle.model.specs.declared.Limit.{Limit}
 use Rattle.model.specs.declared.Case.{Case}
+use Rattle.model.specs.declared.Form.{Form}
 use Rattle.model.specs.declared.Verdict.the-variants as verdict
 use Rattle.model.specs.declared.Answer.{Answer}
 use Rattle.model.specs.declared.Judged.{Judged}
@@ -23,7 +24,7 @@ use Rattle.model.specs.Search.{partsOf}
 use Rattle.model.specs.Faults.{unmarked, network}
 use Rattle.model.specs.Packed.{caseOf}
 use Rattle.model.specs.Answers.{seconds, cycleNumber, Numbers, numbersOf, runInParts}
-use Rattle.model.specs.Writing.{packedBytes, writeFault, told, outputAfter}
+use Rattle.model.specs.Writing.{packedAs, writeFault, told, outputAfter}
 use Rattle.model.specs.Changes.{timePlace, commit}
 
 -- a run as an answer: cycle k is reached, with the times of that cycle in parts; 0 parts where it is refused
@@ -125,10 +126,10 @@ pub record CaseHanded (c : Case) (n horizon : ℕ) (present strict : List ℕ) (
   pub cycles : horizon ≡ c .horizon .0
   pub entries : EntriesHanded (entriesOf (c .times) (c .start) (c .target)) present strict values
 
--- a case written: the numbers handed back, and the output afterwards
-pub record WrittenHanded (c : Case) (out : List ℕ) (returned first second : ℕ) (after : List ℕ) : Type 0 where
-  pub numbers : Handed (writtenNumbers (told (writeFault c (length out)) (packedBytes c))) returned first second
-  pub output : after ≡ outputAfter (writeFault c (length out)) (packedBytes c) out
+-- a case written in a form: the numbers handed back, and the output afterwards
+pub record WrittenHanded (f : Form) (c : Case) (out : List ℕ) (returned first second : ℕ) (after : List ℕ) : Type 0 where
+  pub numbers : Handed (writtenNumbers (told (writeFault f c (length out)) (packedAs f c))) returned first second
+  pub output : after ≡ outputAfter (writeFault f c (length out)) (packedAs f c) out
 
 -- an entry put at place k of two arrays: what is stored, and what is there afterwards
 pub record EntryPut (k : ℕ) (e : Slot) (present : List ℕ) (values : List ℤ) (flags : List ℕ) (times : List ℤ) : Type 0 where

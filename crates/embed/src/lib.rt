@@ -1,4 +1,5 @@
 // The library for C and Rust: verdicts, runs, packed cases written and read, on numbers and lent arrays. No function asks anything of its caller.
+// The names end in the most departures, which decides how long the arrays are: the header gives them to the linker under plain names.
 ghost use mathlib.Core.Path.{_≡_};
 ghost use Prim.Native.Nat.{_+_, _≤_, _<_};
 ghost use lib.ListN.{length};
@@ -6,6 +7,7 @@ ghost use Rattle.model.specs.Sizes.{mostTimes, mostBounds};
 ghost use Rattle.model.specs.Lists.{padded, tabulate};
 ghost use Rattle.model.specs.Faults.{nothing, unmarked};
 ghost use Rattle.model.specs.Packed.{parse};
+ghost use Rattle.model.specs.Forms.{old, wide};
 ghost use Rattle.model.specs.Answers.{answer, workspaceAfter, answerPacked, workspaceAfterPacked, unpacked, run};
 ghost use Rattle.model.specs.Changes.{preview, workspaceAfterPreview};
 ghost use Rattle.embed.specs.Numbers;
@@ -287,7 +289,7 @@ fn case_in(
 
 // The verdict on a packed case.
 #[no_mangle]
-pub extern "C" fn tramcheck_verdict(
+pub extern "C" fn tramcheck_verdict_15(
     bytes: &[u8],
     capacity: usize,
     work: &mut [i32],
@@ -306,7 +308,7 @@ pub extern "C" fn tramcheck_verdict(
 
 // The verdict on an unpacked case.
 #[no_mangle]
-pub extern "C" fn tramcheck_verdict_unpacked(
+pub extern "C" fn tramcheck_verdict_unpacked_15(
     n: usize,
     horizon: usize,
     present: &[u8; ENTRIES],
@@ -332,7 +334,7 @@ pub extern "C" fn tramcheck_verdict_unpacked(
 
 // The times of a cycle of an unpacked case, from start times on.
 #[no_mangle]
-pub extern "C" fn tramcheck_run(
+pub extern "C" fn tramcheck_run_15(
     n: usize,
     present: &[u8; ENTRIES],
     values: &[i64; ENTRIES],
@@ -356,7 +358,7 @@ pub extern "C" fn tramcheck_run(
 
 // The same in the parts of a second that a start of the case is in: the start times, and those of the cycle.
 #[no_mangle]
-pub extern "C" fn tramcheck_run_parts(
+pub extern "C" fn tramcheck_run_parts_15(
     n: usize,
     present: &[u8; ENTRIES],
     strict: &[u8; ENTRIES],
@@ -382,7 +384,7 @@ pub extern "C" fn tramcheck_run_parts(
 
 // The verdict on an unpacked case with one time replaced or blanked.
 #[no_mangle]
-pub extern "C" fn tramcheck_preview(
+pub extern "C" fn tramcheck_preview_15(
     n: usize,
     horizon: usize,
     present: &[u8; ENTRIES],
@@ -410,9 +412,9 @@ pub extern "C" fn tramcheck_preview(
     tell_in_parts(answer, fault, value, parts, start)
 }
 
-// Writes an unpacked case in packed form to the front of out.
+// Writes an unpacked case in document 01's packed form to the front of out.
 #[no_mangle]
-pub extern "C" fn tramcheck_write(
+pub extern "C" fn tramcheck_write_15(
     n: usize,
     horizon: usize,
     present: &[u8; ENTRIES],
@@ -422,7 +424,7 @@ pub extern "C" fn tramcheck_write(
     fault: &mut usize,
     value: &mut usize,
 ) -> u32
-    ensures { λ r. ⌜ WrittenHanded (caseIn n horizon (now (present .entry)) (now (strict .entry)) (now (values .entry))) (now (out .entry))
+    ensures { λ r. ⌜ WrittenHanded old (caseIn n horizon (now (present .entry)) (now (strict .entry)) (now (values .entry))) (now (out .entry))
         r (now (fault .exit)) (now (value .exit)) (now (out .exit)) ⌝ }
 {
     let case = case_in(n, horizon, present, strict, values);
@@ -430,9 +432,29 @@ pub extern "C" fn tramcheck_write(
     tell_written(answer, fault, value)
 }
 
-// Reads a packed case and hands it back unpacked; the empty case where it is refused.
+// The same in the wide form.
 #[no_mangle]
-pub extern "C" fn tramcheck_read(
+pub extern "C" fn tramcheck_write_wide_15(
+    n: usize,
+    horizon: usize,
+    present: &[u8; ENTRIES],
+    strict: &[u8; ENTRIES],
+    values: &[i64; ENTRIES],
+    out: &mut [u8],
+    fault: &mut usize,
+    value: &mut usize,
+) -> u32
+    ensures { λ r. ⌜ WrittenHanded wide (caseIn n horizon (now (present .entry)) (now (strict .entry)) (now (values .entry))) (now (out .entry))
+        r (now (fault .exit)) (now (value .exit)) (now (out .exit)) ⌝ }
+{
+    let case = case_in(n, horizon, present, strict, values);
+    let answer = packer::write_wide(case, out);
+    tell_written(answer, fault, value)
+}
+
+// Reads a packed case, in either form, and hands it back unpacked; the empty case where it is refused.
+#[no_mangle]
+pub extern "C" fn tramcheck_read_15(
     bytes: &[u8],
     n: &mut usize,
     horizon: &mut usize,
@@ -469,7 +491,7 @@ pub extern "C" fn tramcheck_read(
 
 // Changes one time of an unpacked case where it stands; on a refusal everything stays as it was.
 #[no_mangle]
-pub extern "C" fn tramcheck_commit(
+pub extern "C" fn tramcheck_commit_15(
     n: usize,
     horizon: usize,
     present: &mut [u8; ENTRIES],

@@ -165,10 +165,14 @@ module _ {r : Judged} (o : Option Fault) (made : r ≡ judgedBy o) where
 pub pattern-size : {n : ℕ} → Departures n → n * (n + 1) ≤ mostBounds
 pattern-size {n} d = rw (add-one n) (pattern-fits d)
 
--- a table without a fault has a number of departures in its limits, and so has a case
+-- a number of departures that is not outside its limits; a table without a fault has such a number, and so has a case
+pub inside-departures : (n : ℕ) → outside 1 mostDepartures n ≡ false → Departures n
+unfolding outside
+inside-departures n h = let facts = simp no-fault at h in omega arith
+
 pub table-departures : (c : Case) (low k : ℕ) → tableFault c low k ≡ none → Departures (c .n)
-unfolding tableFault outside
-table-departures c low k h = let facts = simp no-fault at h in omega arith
+unfolding tableFault
+table-departures c low k h = let facts = simp no-fault at h in inside-departures (c .n) (facts .0)
 
 pub case-departures : (c : Case) → caseFault c ≡ none → Departures (c .n)
 unfolding caseFault

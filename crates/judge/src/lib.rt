@@ -1,14 +1,16 @@
-// Judges an unpacked case: the first fault of the case by itself, in the packed form, of a call for a verdict, and of a run. Also, the parts of its start.
+// Judges an unpacked case: the first fault of the case by itself, for a packed form, of a call for a verdict, and of a run. Also, the parts of its start.
 ghost use mathlib.Core.Path.{_≡_};
 ghost use mathlib.Core.List.{map};
 ghost use Prim.Native.Nat.{_≤_, _<_, _^_};
 ghost use lib.ListN.{take};
+ghost use lib.Dec.{ltb};
 ghost use Rattle.model.specs.declared.Fault.the-variants as fault;
-ghost use Rattle.model.specs.Sizes.{mostBounds, startLimit};
-ghost use Rattle.model.specs.Lists.{anyOf, orElse};
+ghost use Rattle.model.specs.Sizes.{mostDepartures, mostBounds, startLimit};
+ghost use Rattle.model.specs.Forms.{mostIn};
+ghost use Rattle.model.specs.Lists.{anyOf};
 ghost use Rattle.model.specs.Search.{isStrict};
 ghost use Rattle.model.specs.Faults;
-ghost use Rattle.model.specs.Faults.{boundOf, present, over, boundFault, entryFault, rowsFault, tableFault, patternsFault};
+ghost use Rattle.model.specs.Faults.{boundOf, present, over, boundFaultIn, entryFault, rowsFault, timesFault, tableFault, patternsFault};
 ghost use Rattle.model.specs.Faults.{caseFault, formFault, roomFault, callFault, runFault};
 ghost use Rattle.model.specs.Conditions.{Departures};
 ghost use Rattle.judge.specs.Judgement.{judgedBy, startParts};
@@ -20,11 +22,13 @@ use model::CYCLES;
 use model::Case;
 use model::DEPARTURES;
 use model::Fault;
+use model::Form;
 use model::Judged;
 use model::Limit;
 use model::START_LIMIT;
 use model::Slot;
 use model::TIME_LIMIT;
+use model::WIDE;
 use model::ZONES;
 
 // Below low or above high.
@@ -68,9 +72,9 @@ fn rows_fault(times: [Slot; BOUNDS], n: usize) -> Judged
     judged
 }
 
-// Fault 6 of a bound, then 16 if it is strict where marks have no place.
-fn bound_fault(bound: Limit, place: usize, marks: bool) -> Judged
-    ensures { λ r. ⌜ r ≡ judgedBy (boundFault marks place bound) ⌝ }
+// Fault 6 of a bound, then 16 if it is strict where the form has no place for a mark.
+fn bound_fault(bound: Limit, place: usize, form: Form) -> Judged
+    ensures { λ r. ⌜ r ≡ judgedBy (boundFaultIn form place bound) ⌝ }
 {
     let value = bound.value;
     let slot = Slot {
@@ -80,20 +84,20 @@ fn bound_fault(bound: Limit, place: usize, marks: bool) -> Judged
     if beyond(slot, BOUND_LIMIT) {
         return Judged::Refused(Fault::Bound(place));
     }
-    if !marks & (bound.has & bound.strict) {
+    if (form.mark == 0) & (bound.has & bound.strict) {
         return Judged::Refused(Fault::Form(place));
     }
     Judged::Accepted
 }
 
 // Faults 6 and 16 of one pattern: its first count bounds, numbered from offset on.
-fn bounds_fault(bounds: [Limit; BOUNDS], count: usize, offset: usize, marks: bool) -> Judged
+fn bounds_fault(bounds: [Limit; BOUNDS], count: usize, offset: usize, form: Form) -> Judged
     requires { ⌜ (count ≤ mostBounds) × (offset ≤ mostBounds) ⌝ }
-    ensures { λ r. ⌜ r ≡ judgedBy (entryFault (boundFault marks) offset (take count bounds)) ⌝ }
+    ensures { λ r. ⌜ r ≡ judgedBy (entryFault (boundFaultIn form) offset (take count bounds)) ⌝ }
 {
     for i in 0..count {
         let bound = bounds[i];
-        if let Judged::Refused(f) = bound_fault(bound, offset + i, marks) {
+        if let Judged::Refused(f) = bound_fault(bound, offset + i, form) {
             return Judged::Refused(f);
         }
     }
@@ -114,14 +118,12 @@ fn starts_fault(start: [Seconds; DEPARTURES], n: usize) -> Judged
     Judged::Accepted
 }
 
-// Faults 2 to 5, fault 3 for k cycles of which there are to be at least low.
-fn table_fault(case: Case, low: usize, k: usize) -> Judged
-    ensures { λ r. ⌜ r ≡ judgedBy (tableFault case low k) ⌝ }
+// Fault 3 for k cycles of which there are to be at least low, then 4 and 5.
+fn times_fault(case: Case, low: usize, k: usize) -> Judged
+    requires { ⌜ Departures (case .n) ⌝ }
+    ensures { λ r. ⌜ r ≡ judgedBy (timesFault case low k) ⌝ }
 {
     let n = case.n;
-    if outside(1, DEPARTURES, n) {
-        return Judged::Refused(Fault::Departures);
-    }
     if outside(low, CYCLES, k) {
         return Judged::Refused(Fault::Horizon);
     }
@@ -129,19 +131,30 @@ fn table_fault(case: Case, low: usize, k: usize) -> Judged
     rows_fault(times, n)
 }
 
+// Fault 2, then 3 to 5.
+fn table_fault(case: Case, low: usize, k: usize) -> Judged
+    ensures { λ r. ⌜ r ≡ judgedBy (tableFault case low k) ⌝ }
+{
+    let n = case.n;
+    if outside(1, DEPARTURES, n) {
+        return Judged::Refused(Fault::Departures);
+    }
+    times_fault(case, low, k)
+}
+
 // Faults 6 and 16: the start, then the target, whose bounds are numbered after those of the start.
-fn patterns_fault(case: Case, marks: bool) -> Judged
+fn patterns_fault(case: Case, form: Form) -> Judged
     requires { ⌜ Departures (case .n) ⌝ }
-    ensures { λ r. ⌜ r ≡ judgedBy (patternsFault marks case) ⌝ }
+    ensures { λ r. ⌜ r ≡ judgedBy (patternsFault (boundFaultIn form) case) ⌝ }
 {
     let n = case.n;
     let size = n * (n + 1);
     let start = case.start;
     let target = case.target;
-    if let Judged::Refused(f) = bounds_fault(start, size, 0, marks) {
+    if let Judged::Refused(f) = bounds_fault(start, size, 0, form) {
         return Judged::Refused(f);
     }
-    bounds_fault(target, size, size, marks)
+    bounds_fault(target, size, size, form)
 }
 
 // Faults 9 and 10. The product is formed only where it is small.
@@ -158,29 +171,43 @@ fn room_fault(n: usize, capacity: usize, size: usize) -> Judged
     Judged::Accepted
 }
 
-// Faults 2 to 6, with 16 where marks have no place.
-fn entries_fault(case: Case, marks: bool) -> Judged
-    ensures { λ r. ⌜ r ≡ judgedBy (orElse (tableFault case 1 (case .horizon .0)) (patternsFault marks case)) ⌝ }
+// The form has no place for so many departures. The wide one has a place for all that there can be.
+fn too_many(n: usize, form: Form) -> bool
+    requires { ⌜ n ≤ mostDepartures ⌝ }
+    ensures { λ r. ⌜ r ≡ ltb (mostIn form) n ⌝ }
 {
-    let horizon = case.horizon;
-    if let Judged::Refused(f) = table_fault(case, 1, horizon.0) {
-        return Judged::Refused(f);
+    let wide = WIDE;
+    let digits = form.digits;
+    if wide.digits <= digits {
+        return false;
     }
-    patterns_fault(case, marks)
+    (1 << digits) <= n
 }
 
-// The first fault of a case by itself, 2 to 6.
+// The first fault of a case for a packed form: 2, 16 of n, 3 to 5, then 6 and 16 bound by bound.
+pub fn form_fault(case: Case, form: Form) -> Judged
+    ensures { λ r. ⌜ r ≡ judgedBy (formFault form case) ⌝ }
+{
+    let n = case.n;
+    let horizon = case.horizon;
+    let cycles = horizon.0;
+    if outside(1, DEPARTURES, n) {
+        return Judged::Refused(Fault::Departures);
+    }
+    if too_many(n, form) {
+        return Judged::Refused(Fault::Form(0));
+    }
+    if let Judged::Refused(f) = times_fault(case, 1, cycles) {
+        return Judged::Refused(f);
+    }
+    patterns_fault(case, form)
+}
+
+// The first fault of a case by itself, 2 to 6: the wide form has a place for every case.
 pub fn case_fault(case: Case) -> Judged
     ensures { λ r. ⌜ r ≡ judgedBy (caseFault case) ⌝ }
 {
-    entries_fault(case, true)
-}
-
-// The first fault of a case for document 01's packed form, 2 to 6 with 16.
-pub fn form_fault(case: Case) -> Judged
-    ensures { λ r. ⌜ r ≡ judgedBy (formFault case) ⌝ }
-{
-    entries_fault(case, false)
+    form_fault(case, WIDE)
 }
 
 // The first fault of a call for a verdict, capacity being Z and size the length of the workspace.

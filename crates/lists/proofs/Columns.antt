@@ -74,7 +74,7 @@ module _ {n : ℕ} {times zone : List ℤ} {part : Matrix} {cols : List ℕ} {i 
   -- it can be taken in
   pub row-ready : {z : List ℤ} → boundsIn z ≡ part → RowReady n z times zone cols i s
   row-ready {z} e = record {
-    set = closed-in z (sel .backward .table .departures) (rw e (sel .before .closed-set));
+    set = closed-in z (sel .backward .source .few) (rw e (sel .before .closed-set));
     table = sel .backward .table;
     source = sel .backward .source;
     from-one = sel .before .from-one;

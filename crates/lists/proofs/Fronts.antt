@@ -20,7 +20,7 @@ module _ (size : ℕ) (list : List ℤ) (inside : size ≤ length list) where
   front-long = length-take-le size list inside
 
   pub front-zone : {n : ℕ} → Departures n → size ≡ zoneSize n → ZoneIn n (take size list)
-  front-zone d is = record { departures = d; size = front-long ∙ is }
+  front-zone d is = record { few = omega arith; size = front-long ∙ is }
 
   -- given back as out
   module _ (out : List ℤ) (same : length out ≡ length (take size list)) where

@@ -124,14 +124,14 @@ module _ {n capacity count : ℕ} {list₀ times zone seen₀ : List ℤ} {count
       unfolding flatMap
       here = g .rest ∙ rw (columns-here n (timesIn times) i s (g .column h)) (foldl-append keep (g .zs) (sets-of s) _)
 
-      pub going-on : {r : ℕ} → built′ .full ≡ false → length list′ ≡ length list → length cols′ ≡ length cols → NextColumn n (timesIn times) i (s + 1) r
-          → At list′ seen′ counts′ cols′ built′ r
-      going-on more l c next = record {
+      pub going-on : {r : ℕ} → built′ .full ≡ false → length list′ ≡ length list → length seen′ ≡ length seen → length cols′ ≡ length cols
+          → NextColumn n (timesIn times) i (s + 1) r → At list′ seen′ counts′ cols′ built′ r
+      going-on more l t c next = record {
         zs = with-column;
         made = made-since;
         more = more;
         list-size = l ∙ g .list-size;
-        seen-size = made-since .noted .tables .seen-size ∙ sym (ready .ready .tables .seen-size);
+        seen-size = t ∙ g .seen-size;
         counts-size = made-since .noted .tables .counted .size ∙ sym (ready .ready .tables .counted .size);
         cols-size = c ∙ g .cols-size;
         column = next .column;

@@ -1,5 +1,6 @@
--- The laws that the functions' proofs share; a caller's proof cites Held.
+-- The laws that the functions' proofs share; a caller's proof cites Held and Lengths.
 pub mod Held
+pub mod Lengths
 pub mod Extensions
 pub mod Columns
 pub mod Rows

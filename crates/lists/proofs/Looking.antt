@@ -71,7 +71,8 @@ module _ {n base count : ℕ} {work pattern : List ℤ} where
       found-ready m long some-left =
           let (e, in-parts) = m .startable .times (boundsIn c) (looking-found some-left) in
           record {
-            source = record { departures = m .meets .limits .departures; size = long };
+            departures = m .meets .limits .departures;
+            source = record { few = omega (arith, m .meets .limits .departures .few); size = long };
             few-parts = m .startable .few;
             small = λ i j hi hj. small-mono (omega arith)
                 (fitting-left (patternConstraints n (boundsIn pattern)) (zone-joins m is .meetable) (left-some left some-left) i j hi hj);

@@ -15,6 +15,7 @@ use Rattle.lists.specs.Lists.{setsMet, placesMet, zoneAt}
 use Rattle.lists.specs.Met.{freeAt, Counts, Tables, notedIn}
 use Rattle.lists.specs.Inner.{Elsewhere, parentIn, Underway, RowsFrom}
 use Rattle.lists.proofs.places.Zones.{part-of}
+use Rattle.lists.proofs.met.Seen.{free-below}
 
 shorter : {X : Type 0} {m k : ℕ} (l l′ : List X) → m ≤ k → take k l′ ≡ take k l → take m l′ ≡ take m l
 shorter {m} {k} l l′ h e = sym (take-take m k l′ h) ∙ ap (take m) e ∙ take-take m k l h
@@ -36,13 +37,13 @@ module _ {n i : ℕ} where
   pub rows-fewer : {j : ℕ} {seen seen′ : List ℤ} {counts counts′ cols cols′ : List ℕ} → i ≤ j
       → RowsFrom n j seen seen′ counts counts′ cols cols′ → RowsFrom n i seen seen′ counts counts′ cols cols′
   rows-fewer {j} {seen} {seen′} {counts} {counts′} {cols} {cols′} h f = record {
-    sets-same = shorter seen seen′ (mul-le-mul-right (zoneSize n) (mul-le-mul-right placesMet h)) (f .sets-same);
+    sets-same = shorter seen seen′ (mul-le-mul-right (zoneSize n) (mul-le-mul-right (placesMet n) h)) (f .sets-same);
     counts-same = shorter counts counts′ h (f .counts-same);
     cols-same = shorter cols cols′ h (f .cols-same);
   }
 
   -- a set is built at a place of row i or behind it
-  pub rows-placed : {k : ℕ} {seen seen′ : List ℤ} {counts cols : List ℕ} → i * placesMet ≤ k → Elsewhere (zoneSize n) k seen seen′
+  pub rows-placed : {k : ℕ} {seen seen′ : List ℤ} {counts cols : List ℕ} → i * placesMet n ≤ k → Elsewhere (zoneSize n) k seen seen′
       → RowsFrom n i seen seen′ counts counts cols cols
   rows-placed {seen} {seen′} h e = record { sets-same = shorter seen seen′ (mul-le-mul-right (zoneSize n) h) (e .front); counts-same = refl; cols-same = refl }
 
@@ -51,9 +52,9 @@ module _ {n i : ℕ} where
   rows-picked cols s = record { sets-same = refl; counts-same = refl; cols-same = take-set-le i cols i s (omega arith) }
 
   -- a set is noted after it
-  pub rows-noted : {seen : List ℤ} (counts : List ℕ) {cols : List ℕ} → RowsFrom n i seen seen counts (notedIn counts i) cols cols
+  pub rows-noted : {seen : List ℤ} (counts : List ℕ) {cols : List ℕ} → RowsFrom n i seen seen counts (notedIn n counts i) cols cols
   unfolding notedIn
-  rows-noted counts = record { sets-same = refl; counts-same = go (ltb (getD counts i 0) setsMet); cols-same = refl }
+  rows-noted counts = record { sets-same = refl; counts-same = go (ltb (getD counts i 0) (setsMet n)); cols-same = refl }
     where
       go : (b : Bool) → take i (cond b (set counts i (getD counts i 0 + 1)) counts) ≡ take i counts
       go true = take-set-le i counts i (getD counts i 0 + 1) (omega arith)
@@ -64,24 +65,24 @@ module _ {n i : ℕ} where
     pub count-same : (j : ℕ) → j < i → getD counts′ j 0 ≡ getD counts j 0
     count-same j h = sym (getD-take i counts′ j 0 h) ∙ ap (λ (l : List ℕ). getD l j 0) (f .counts-same) ∙ getD-take i counts j 0 h
 
-    pub set-same : (k : ℕ) → k < i * placesMet → zoneAt (zoneSize n) seen′ k ≡ zoneAt (zoneSize n) seen k
+    pub set-same : (k : ℕ) → k < i * placesMet n → zoneAt (zoneSize n) seen′ k ≡ zoneAt (zoneSize n) seen k
     unfolding zoneAt
     set-same k h =
         let size = zoneSize n in
-        let inside : k * size + size ≤ i * placesMet * size = omega (arith, mul-le-mul-right size h, suc-mul k size) in
+        let inside : k * size + size ≤ i * placesMet n * size = omega (arith, mul-le-mul-right size h, suc-mul k size) in
         ap boundsIn
-        (sym (part-of (i * placesMet * size) (k * size) size seen′ inside)
-        ∙ ap (λ (l : List ℤ). take size (drop (k * size) l)) (f .sets-same) ∙ part-of (i * placesMet * size) (k * size) size seen inside)
+        (sym (part-of (i * placesMet n * size) (k * size) size seen′ inside)
+        ∙ ap (λ (l : List ℤ). take size (drop (k * size) l)) (f .sets-same) ∙ part-of (i * placesMet n * size) (k * size) size seen inside)
 
     -- the set at the free place of a row
-    pub free-same : Counts counts → (j : ℕ) → j < i → zoneAt (zoneSize n) seen′ (freeAt counts′ j) ≡ zoneAt (zoneSize n) seen (freeAt counts j)
-    free-same few j h = rw (count-same j h) (set-same (freeAt counts j) (omega (arith, few .few j)))
+    pub free-same : Counts n counts → (j : ℕ) → j < i → zoneAt (zoneSize n) seen′ (freeAt n counts′ j) ≡ zoneAt (zoneSize n) seen (freeAt n counts j)
+    free-same few j h = rw (count-same j h) (set-same (freeAt n counts j) (free-below few j i h))
 
-    pub parent-same : Counts counts → 1 ≤ i → parentIn n seen′ counts′ i ≡ parentIn n seen counts i
+    pub parent-same : Counts n counts → 1 ≤ i → parentIn n seen′ counts′ i ≡ parentIn n seen counts i
     parent-same few h = free-same few (i - 1) (omega arith)
 
     -- a selection under way is as it was
-    pub still-underway : {times zone : List ℤ} → Underway n times zone seen counts cols i → Tables seen′ counts′ → length cols′ ≡ length cols
+    pub still-underway : {times zone : List ℤ} → Underway n times zone seen counts cols i → Tables n seen′ counts′ → length cols′ ≡ length cols
         → Underway n times zone seen′ counts′ cols′ i
     still-underway u t long = record {
       tables = t;

@@ -1,7 +1,8 @@
 -- The first set of a selection, and the preimages of a zone as the sets of all selections; list 0.
-use Prim.Native.Nat.{ℕ, zero, suc, _-_}
+use Prim.Native.Nat.{ℕ, zero, suc, _-_, _≤_}
 use native.Mathlib.Omega.{arith}
-use mathlib.Core.Path.{_≡_, refl}
+use native.Mathlib.Nat.{zero-mul}
+use mathlib.Core.Path.{_≡_, refl, ap, _∙_}
 use mathlib.Core.List.{List, [], _∷_, map}
 use mathlib.Core.Option.{Option, none, some}
 use lib.IntN.{ℤ}
@@ -22,7 +23,7 @@ use Rattle.zones.specs.Conditions.{CommonReady}
 use Rattle.zones.proofs.Leaving.{closed-in}
 use Rattle.lists.specs.Lists.{seenSize, zoneAt, listIn, Sources, Joins, Meets}
 use Rattle.lists.specs.Selecting.{extensions, Selecting}
-use Rattle.lists.specs.Met.{Tables, Noted}
+use Rattle.lists.specs.Met.{freeAt, Tables, Noted}
 use Rattle.lists.specs.Inner.{Elsewhere, parentIn, Underway}
 use Rattle.lists.proofs.places.Zones.{list-more}
 
@@ -37,9 +38,12 @@ zeros (suc n) (suc i) = zeros n i
 
 -- in a table that begins with the set of all times
 module _ {n : ℕ} {times zone : List ℤ} (s : Sources n times (boundsIn zone ∷ [])) (z : ZoneIn n zone)
-    (seen : List ℤ) (long : length seen ≡ seenSize) (first : zoneAt (zoneSize n) seen 0 ≡ everything (suc n)) where
-  tables : Tables seen rows
+    (seen : List ℤ) (long : seenSize n ≤ length seen) (first : zoneAt (zoneSize n) seen 0 ≡ everything (suc n)) where
+  tables : Tables n seen rows
   tables = record { seen-size = long; counted = record { size = refl; few = λ i. omega (arith, zeros (suc mostDepartures) i) } }
+
+  parent : parentIn n seen rows 1 ≡ everything (suc n)
+  parent = let e : freeAt n rows (1 - 1) ≡ 0 = simp zero-mul in ap (zoneAt (zoneSize n) seen) e ∙ first
 
   first-set : Selecting n times zone (everything (suc n)) (take 1 rows) 1
   first-set = record {
@@ -56,7 +60,7 @@ module _ {n : ℕ} {times zone : List ℤ} (s : Sources n times (boundsIn zone �
   }
 
   pub row-one : Underway n times zone seen rows rows 1
-  row-one = record { tables = tables; cols-size = refl; row = s .table .departures .some; selecting = rw first first-set }
+  row-one = record { tables = tables; cols-size = refl; row = s .table .departures .some; selecting = rw parent first-set }
 
   pub none-noted : {kept : List Matrix} → Noted n times zone kept seen rows
   none-noted = record { tables = tables; covered = λ i c h. absurd (omega (arith, zeros (suc mostDepartures) i)) }
@@ -64,12 +68,12 @@ module _ {n : ℕ} {times zone : List ℤ} (s : Sources n times (boundsIn zone �
   pub preimages : extensions n (timesIn times) (boundsIn zone) (some (parentIn n seen rows 1)) (take 1 rows) 1 (suc n - 1)
       ≡ map (preimage n (timesIn times) (boundsIn zone)) (selections n (timesIn times) n 1)
   unfolding extensions preimage tighten
-  preimages = let e : suc n - 1 ≡ n = omega arith in rw (first, e)
+  preimages = let e : suc n - 1 ≡ n = omega arith in rw (parent, e)
 
 -- ---- a zone and a pattern
 pub common-ready : {n : ℕ} {pattern : List ℤ} {zs : List Matrix} (z : List ℤ) → Meets n pattern zs
     → Joins n (boundsIn pattern) (boundsIn z) → CommonReady n z pattern
-common-ready z m j = record { set = closed-in z (m .limits .departures) (j .closed); limits = m .limits; fitting = j .meetable }
+common-ready z m j = record { set = closed-in z (let few = m .limits .departures .few in omega arith) (j .closed); limits = m .limits; fitting = j .meetable }
 
 -- list 0
 module _ (n : ℕ) (pattern work : List ℤ) where

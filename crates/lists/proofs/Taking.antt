@@ -53,7 +53,7 @@ taken-last {n} {times} {zone} {seen} {counts} {cols} {s} t p long =
 -- ---- a row before it: the set is built at the free place
 module _ {n capacity count : ℕ} {list times zone seen : List ℤ} {counts cols : List ℕ} {i s : ℕ}
     (t : TakeReady n capacity count list times zone seen counts cols i s) {seen′ : List ℤ} (long : length seen′ ≡ length seen) {r : Bool}
-    (p : PlacedAt (zoneSize n) (freeAt counts i) (unmet (metIn (zoneSize n) seen counts i) (leftOf n times zone seen counts cols i s)) seen r seen′) where
+    (p : PlacedAt (zoneSize n) (freeAt n counts i) (unmet (metIn n seen counts i) (leftOf n times zone seen counts cols i s)) seen r seen′) where
   abbrev a : List Time
   a = timesIn times
 
@@ -84,7 +84,7 @@ module _ {n capacity count : ℕ} {list times zone seen : List ℤ} {counts cols
 
   -- the rows below go on from it
   module _ (e : r ≡ true) where
-    left : leftOf n times zone seen counts cols i s ≡ some (zoneAt (zoneSize n) seen′ (freeAt counts i))
+    left : leftOf n times zone seen counts cols i s ≡ some (zoneAt (zoneSize n) seen′ (freeAt n counts i))
     unfolding zoneAt
     left = unmet-some _ _ (left-some (p .left) e)
 
@@ -120,7 +120,7 @@ module _ {n capacity count : ℕ} {list times zone seen : List ℤ} {counts cols
     same-sets = rw (cols-more, here, add-one i, left)
 
     -- then all that they make of it is in the list
-    covered : Covered n a d below (suc i) (zoneAt (zoneSize n) seen′ (freeAt counts i))
+    covered : Covered n a d below (suc i) (zoneAt (zoneSize n) seen′ (freeAt n counts i))
     covered = rw (cols-more, here, add-one i) (covered-new n a d zs (next-before (u .selecting) (u .row) (t .column) left))
 
     module _ {built : Built} {list″ seen″ : List ℤ} {counts″ cols″ : List ℕ}
@@ -134,7 +134,7 @@ module _ {n capacity count : ℕ} {list times zone seen : List ℤ} {counts cols
 
       -- so it is noted
       pub taken-noted : Selected n capacity i times zone (taken n count list times zone seen counts cols i s) list seen counts cols
-          built list″ seen″ (notedIn counts″ i) cols″
+          built list″ seen″ (notedIn n counts″ i) cols″
       taken-noted =
           let stands = free-same (m .rows) (u .tables .counted) i (omega arith) in
           rw (← same-sets) (record {

@@ -2,8 +2,8 @@
 use Prim.Native.Nat.{ℕ, suc, _+_, _*_, _-_, _≤_}
 use mathlib.Core.Path.{_≡_}
 use mathlib.Core.Bool.{Bool}
-use mathlib.Core.List.{List, [], _∷_, _++_, foldl}
-use mathlib.Core.Option.{Option, some}
+use mathlib.Core.List.{List, [], _∷_, _++_}
+use mathlib.Core.Option.{Option}
 use lib.IntN.{ℤ}
 use lib.ListN.{length, take, drop}
 use Rattle.model.specs.Sizes.{mostDepartures, zoneSize}
@@ -17,7 +17,7 @@ use Rattle.zones.specs.Conditions.{Left}
 use Rattle.lists.specs.declared.Built.{Built}
 use Rattle.lists.specs.Lists.{seenSize, placesMet, numbersAt, zoneAt, listIn, ListRoom, ListHeld, Sources}
 use Rattle.lists.specs.Selecting.{extensions, withColumn, Selecting}
-use Rattle.lists.specs.Met.{freeAt, metIn, Tables, unmet, Noted}
+use Rattle.lists.specs.Met.{freeAt, Tables, Noted}
 
 -- ---- a set built at place k of a list
 -- only the numbers of place k may differ
@@ -41,11 +41,11 @@ pub record AddReady (n k : ℕ) (list times zone : List ℤ) (cols : List ℕ) (
 
 -- the set at the free place of the row before
 abbrev pub parentIn : ℕ → List ℤ → List ℕ → ℕ → Matrix
-parentIn n seen counts i = zoneAt (zoneSize n) seen (freeAt counts (i - 1))
+parentIn n seen counts i = zoneAt (zoneSize n) seen (freeAt n counts (i - 1))
 
 -- a selection under way: the columns of rows 0 to i - 1 leave it
 pub record Underway (n : ℕ) (times zone seen : List ℤ) (counts cols : List ℕ) (i : ℕ) : Type 0 where
-  pub tables : Tables seen counts
+  pub tables : Tables n seen counts
   pub cols-size : length cols ≡ suc mostDepartures
   pub row : i ≤ n
   pub selecting : Selecting n times zone (parentIn n seen counts i) (take i cols) i
@@ -70,11 +70,11 @@ pub record PutReady (n capacity count : ℕ) (list times zone seen : List ℤ) (
 
 pub record PutLast (n capacity count : ℕ) (o : Option Matrix) (list seen : List ℤ) (counts : List ℕ) (r : Built) (list′ seen′ : List ℤ) : Type 0 where
   pub held : ListHeld (zoneSize n) capacity (keep (listIn (zoneSize n) count list) o) r list list′
-  pub elsewhere : Elsewhere (zoneSize n) (freeAt counts n) seen seen′
+  pub elsewhere : Elsewhere (zoneSize n) (freeAt n counts n) seen seen′
 
 -- nothing before row i has changed
 pub record RowsFrom (n i : ℕ) (seen seen′ : List ℤ) (counts counts′ cols cols′ : List ℕ) : Type 0 where
-  pub sets-same : take (i * placesMet * zoneSize n) seen′ ≡ take (i * placesMet * zoneSize n) seen
+  pub sets-same : take (i * placesMet n * zoneSize n) seen′ ≡ take (i * placesMet n * zoneSize n) seen
   pub counts-same : take i counts′ ≡ take i counts
   pub cols-same : take i cols′ ≡ take i cols
 
@@ -100,4 +100,4 @@ pub record PullReady (n capacity count : ℕ) (list times zone seen : List ℤ) 
   pub room : ListRoom (zoneSize n) capacity count list
   pub sources : Sources n times (boundsIn zone ∷ [])
   pub source : ZoneIn n zone
-  pub seen-size : length seen ≡ seenSize
+  pub seen-size : seenSize n ≤ length seen

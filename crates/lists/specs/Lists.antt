@@ -2,12 +2,13 @@
 use Prim.Native.Nat.{ℕ, suc, _+_, _*_, _≤_, _<_}
 use mathlib.Core.Path.{_≡_}
 use mathlib.Core.Logic.{_⊎_}
-use mathlib.Core.Bool.{true, false}
+use mathlib.Core.Bool.{true, false, cond}
 use mathlib.Core.List.{List, []}
 use mathlib.Core.Option.{Option, none, some}
 use lib.IntN.{ℤ}
+use lib.Dec.{ltb}
 use lib.ListN.{length, take, drop}
-use Rattle.model.specs.Sizes.{mostDepartures, mostNumbers, zoneSize, workspaceSize}
+use Rattle.model.specs.Sizes.{fewDepartures, mostDepartures, zoneSize, workspaceSize}
 use Rattle.model.specs.Lists.{tabulate, Every}
 use Rattle.model.specs.Bound.{Bound}
 use Rattle.model.specs.Matrix.{Matrix, tighten}
@@ -20,16 +21,32 @@ use Rattle.memory.specs.Conditions.{TableIn, PatternIn}
 use Rattle.lists.specs.declared.Built.{Built}
 use Rattle.lists.specs.declared.Found.{Found}
 
--- how many sets can be noted after each row, its places, and the numbers of the table
-abbrev pub setsMet : ℕ
-setsMet = 128
+-- ---- the table of the sets met
+-- the departures of a small and of a middling network, at most; any other is large
+abbrev pub smallNetwork : ℕ
+smallNetwork = 5
 
-abbrev pub placesMet : ℕ
-placesMet = suc setsMet
+abbrev pub middleNetwork : ℕ
+middleNetwork = fewDepartures
 
-abbrev pub seenSize : ℕ
-seenSize = suc mostDepartures * placesMet * mostNumbers
+-- how many sets can be noted after each row: fewer in a large network, where a set has more numbers
+abbrev pub manySets : ℕ
+manySets = 128
 
+abbrev pub fewSets : ℕ
+fewSets = 32
+
+unfoldable pub setsMet : ℕ → ℕ
+setsMet n = cond (ltb middleNetwork n) fewSets manySets
+
+-- the places of a row, and the numbers that a table needs
+abbrev pub placesMet : ℕ → ℕ
+placesMet n = suc (setsMet n)
+
+abbrev pub seenSize : ℕ → ℕ
+seenSize n = suc n * placesMet n * zoneSize n
+
+-- ---- lists
 -- the numbers at place k, of size numbers each, and the zone there
 abbrev pub numbersAt : ℕ → List ℤ → ℕ → List ℤ
 numbersAt size work k = take size (drop (k * size) work)
@@ -70,7 +87,7 @@ pub record Building (n capacity source goal count : ℕ) (work times seen : List
   pub halves : Halves n capacity source goal work
   pub inside : count ≤ capacity
   pub sources : Sources n times (listIn (zoneSize n) count (drop source work))
-  pub seen-size : length seen ≡ seenSize
+  pub seen-size : seenSize n ≤ length seen
 
 -- the list made from the list at source. Free: what seen holds; its length is unchanged
 pub record NextList (n capacity source goal count : ℕ) (times work seen : List ℤ) (r : Built) (work′ seen′ : List ℤ) : Type 0 where

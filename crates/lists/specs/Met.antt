@@ -17,24 +17,24 @@ use Rattle.lists.specs.Lists.{setsMet, placesMet, seenSize, zoneAt}
 use Rattle.lists.specs.Selecting.{extensions}
 
 -- the free place of row i: behind the sets noted after it, as many as counts says
-abbrev pub freeAt : List ℕ → ℕ → ℕ
-freeAt counts i = i * placesMet + getD counts i 0
+abbrev pub freeAt : ℕ → List ℕ → ℕ → ℕ
+freeAt n counts i = i * placesMet n + getD counts i 0
 
 -- those sets
 abbrev pub metIn : ℕ → List ℤ → List ℕ → ℕ → List Matrix
-metIn size seen counts i = tabulate (getD counts i 0) (i * placesMet) (zoneAt size seen)
+metIn n seen counts i = tabulate (getD counts i 0) (i * placesMet n) (zoneAt (zoneSize n) seen)
 
-pub record Counts (counts : List ℕ) : Type 0 where
+pub record Counts (n : ℕ) (counts : List ℕ) : Type 0 where
   pub size : length counts ≡ suc mostDepartures
-  pub few : (i : ℕ) → getD counts i 0 ≤ setsMet
+  pub few : (i : ℕ) → getD counts i 0 ≤ setsMet n
 
-pub record Tables (seen : List ℤ) (counts : List ℕ) : Type 0 where
-  pub seen-size : length seen ≡ seenSize
-  pub counted : Counts counts
+pub record Tables (n : ℕ) (seen : List ℤ) (counts : List ℕ) : Type 0 where
+  pub seen-size : seenSize n ≤ length seen
+  pub counted : Counts n counts
 
 -- one more in row i, if there is room
-unfoldable pub notedIn : List ℕ → ℕ → List ℕ
-notedIn counts i = cond (ltb (getD counts i 0) setsMet) (set counts i (getD counts i 0 + 1)) counts
+unfoldable pub notedIn : ℕ → List ℕ → ℕ → List ℕ
+notedIn n counts i = cond (ltb (getD counts i 0) (setsMet n)) (set counts i (getD counts i 0 + 1)) counts
 
 -- a set, if it is none of zs
 unfoldable pub unmet : List Matrix → Option Matrix → Option Matrix
@@ -54,5 +54,5 @@ pub record Covered (n : ℕ) (a : List Time) (d : Matrix) (kept : List Matrix) (
 
 -- so it is for each set noted
 pub record Noted (n : ℕ) (times zone : List ℤ) (kept : List Matrix) (seen : List ℤ) (counts : List ℕ) : Type 0 where
-  pub tables : Tables seen counts
-  pub covered : (i c : ℕ) → c < getD counts i 0 → Covered n (timesIn times) (boundsIn zone) kept (suc i) (zoneAt (zoneSize n) seen (i * placesMet + c))
+  pub tables : Tables n seen counts
+  pub covered : (i c : ℕ) → c < getD counts i 0 → Covered n (timesIn times) (boundsIn zone) kept (suc i) (zoneAt (zoneSize n) seen (i * placesMet n + c))

@@ -25,11 +25,20 @@ use model::NUMBERS;
 mod met;
 mod places;
 
-// The numbers of the table in which the sets met are kept.
-pub const SEEN: usize = met::SEEN;
+// The departures of a small and of a middling network, at most; any other is large.
+pub const SMALL: usize = 5;
+
+pub const MIDDLE: usize = model::FEW;
 
 // A row for each departure, and one for the clock.
 const ROWS: usize = DEPARTURES + 1;
+
+// The numbers of a table in which the sets met are kept: for a small, a middling and a large network.
+pub const SMALL_SEEN: usize = (SMALL + 1) * (met::MANY + 1) * ((SMALL + 1) * (SMALL + 1));
+
+pub const MIDDLE_SEEN: usize = (MIDDLE + 1) * (met::MANY + 1) * ((MIDDLE + 1) * (MIDDLE + 1));
+
+pub const LARGE_SEEN: usize = ROWS * (met::FEW + 1) * NUMBERS;
 
 // A list made anew: its length, or that it has no room.
 pub struct Built {
@@ -113,7 +122,7 @@ fn next_zone(
         ⌝ }
 {
     let size = zone_size(n);
-    let base = met::free(counts, n - 1) * size;
+    let base = met::free(counts, n, n - 1) * size;
     let end = base + size;
     places::store(list, count, &seen[base..end], size);
     if !add_at(list, count, times, zone, cols, n, n, s) {
@@ -136,7 +145,7 @@ fn beside(
 ) -> bool
     requires { ⌜ ColumnReady n (now times) (now zone) (now seen) (now counts) (now cols) n s × (count * zoneSize n ≤ length (now list)) ⌝ }
     ensures { λ r. ⌜
-        PlacedAt (zoneSize n) (freeAt (now (counts .entry)) n)
+        PlacedAt (zoneSize n) (freeAt n (now (counts .entry)) n)
         (unmet (listIn (zoneSize n) count (now (list .entry)))
         (leftOf n (now (times .entry)) (now (zone .entry)) (now (seen .entry)) (now (counts .entry)) (now (cols .entry)) n s))
         (now (seen .entry)) r (now (seen .exit))
@@ -146,7 +155,7 @@ fn beside(
         return false;
     }
     let size = zone_size(n);
-    let base = met::free(counts, n) * size;
+    let base = met::free(counts, n, n) * size;
     let end = base + size;
     !places::has(list, 0, count, &seen[base..end], size)
 }
@@ -227,7 +236,7 @@ fn take_column(
         i + 1,
     );
     if !built.full {
-        met::note(counts, i);
+        met::note(counts, n, i);
     }
     built
 }

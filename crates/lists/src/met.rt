@@ -1,29 +1,40 @@
 // The sets met: each row has places for the sets that were left after it, and one place more, where the next one is built. Whatever further rows
 // make of a set that is noted, by counting it, is in the list already.
 ghost use mathlib.Core.Path.{_≡_};
-ghost use Prim.Native.Nat.{_≤_};
+ghost use Prim.Native.Nat.{_*_, _≤_};
 ghost use Rattle.model.specs.Sizes.{mostDepartures, zoneSize};
+ghost use Rattle.lists.specs.Lists.{setsMet, placesMet};
 ghost use Rattle.lists.specs.Met.{freeAt, metIn, Counts, unmet, notedIn};
 ghost use Rattle.lists.specs.Inner.{PlacedAt, ColumnReady, leftOf};
+use super::MIDDLE;
 use super::places;
 use memory::zone_size;
-use model::DEPARTURES;
-use model::NUMBERS;
 
-// How many sets can be noted after each row, and the places of a row.
-const SETS: usize = 128;
+// How many sets can be noted after each row: few in a large network, where a set has more numbers.
+pub(crate) const MANY: usize = 128;
 
-const PLACES: usize = SETS + 1;
+pub(crate) const FEW: usize = 32;
 
-// The numbers of the table: a row for the clock, too.
-pub(crate) const SEEN: usize = (DEPARTURES + 1) * PLACES * NUMBERS;
+fn sets(n: usize) -> usize
+    ensures { λ r. ⌜ r ≡ setsMet n ⌝ }
+{
+    if MIDDLE < n { FEW } else { MANY }
+}
+
+// The first place of row i.
+fn first(n: usize, i: usize) -> usize
+    requires { ⌜ i ≤ mostDepartures ⌝ }
+    ensures { λ r. ⌜ r ≡ i * placesMet n ⌝ }
+{
+    i * (sets(n) + 1)
+}
 
 // The free place of row i.
-pub(crate) fn free(counts: &[usize], i: usize) -> usize
-    requires { ⌜ Counts (now counts) × (i ≤ mostDepartures) ⌝ }
-    ensures { λ r. ⌜ r ≡ freeAt (now (counts .entry)) i ⌝ }
+pub(crate) fn free(counts: &[usize], n: usize, i: usize) -> usize
+    requires { ⌜ Counts n (now counts) × (i ≤ mostDepartures) ⌝ }
+    ensures { λ r. ⌜ r ≡ freeAt n (now (counts .entry)) i ⌝ }
 {
-    i * PLACES + counts[i]
+    first(n, i) + counts[i]
 }
 
 // Builds, at the free place of row i, what column s leaves of the set at the free place of the row before. False where that is nothing.
@@ -39,14 +50,14 @@ pub(crate) fn grow(
 ) -> bool
     requires { ⌜ ColumnReady n (now times) (now zone) (now seen) (now counts) (now cols) i s ⌝ }
     ensures { λ r. ⌜
-        PlacedAt (zoneSize n) (freeAt (now (counts .entry)) i)
+        PlacedAt (zoneSize n) (freeAt n (now (counts .entry)) i)
         (leftOf n (now (times .entry)) (now (zone .entry)) (now (seen .entry)) (now (counts .entry)) (now (cols .entry)) i s)
         (now (seen .entry)) r (now (seen .exit))
         ⌝ }
 {
     let size = zone_size(n);
-    let parent = free(counts, i - 1);
-    let here = free(counts, i);
+    let parent = free(counts, n, i - 1);
+    let here = free(counts, n, i);
     places::copy(seen, parent, here, size);
     super::add_at(seen, here, times, zone, cols, n, i, s)
 }
@@ -64,8 +75,8 @@ pub(crate) fn fresh(
 ) -> bool
     requires { ⌜ ColumnReady n (now times) (now zone) (now seen) (now counts) (now cols) i s ⌝ }
     ensures { λ r. ⌜
-        PlacedAt (zoneSize n) (freeAt (now (counts .entry)) i)
-        (unmet (metIn (zoneSize n) (now (seen .entry)) (now (counts .entry)) i)
+        PlacedAt (zoneSize n) (freeAt n (now (counts .entry)) i)
+        (unmet (metIn n (now (seen .entry)) (now (counts .entry)) i)
         (leftOf n (now (times .entry)) (now (zone .entry)) (now (seen .entry)) (now (counts .entry)) (now (cols .entry)) i s))
         (now (seen .entry)) r (now (seen .exit))
         ⌝ }
@@ -74,17 +85,17 @@ pub(crate) fn fresh(
         return false;
     }
     let size = zone_size(n);
-    let here = free(counts, i);
-    !places::has_at(seen, i * PLACES, here, here, size)
+    let here = free(counts, n, i);
+    !places::has_at(seen, first(n, i), here, here, size)
 }
 
 // Notes the set at the free place of row i by counting it, if there is room for another.
-pub(crate) fn note(counts: &mut [usize], i: usize)
-    requires { ⌜ Counts (now counts) × (i ≤ mostDepartures) ⌝ }
-    ensures { λ r. ⌜ now (counts .exit) ≡ notedIn (now (counts .entry)) i ⌝ }
+pub(crate) fn note(counts: &mut [usize], n: usize, i: usize)
+    requires { ⌜ Counts n (now counts) × (i ≤ mostDepartures) ⌝ }
+    ensures { λ r. ⌜ now (counts .exit) ≡ notedIn n (now (counts .entry)) i ⌝ }
 {
     let count = counts[i];
-    if count < SETS {
+    if count < sets(n) {
         counts[i] = count + 1;
     }
 }

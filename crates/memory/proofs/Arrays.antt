@@ -19,7 +19,7 @@ module _ {n size : ℕ} (d : Departures n) (is : size ≡ zoneSize n) (part : Li
   part-long = length-take-le size part part-room
 
   pub part-zone : ZoneIn n (take size part)
-  part-zone = record { departures = d; size = part-long ∙ is }
+  part-zone = record { few = omega arith; size = part-long ∙ is }
 
   pub part-is : take size part ≡ take (zoneSize n) part
   part-is = ap (λ (s : ℕ). take s part) is

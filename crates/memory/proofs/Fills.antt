@@ -14,7 +14,7 @@ use Rattle.memory.specs.Matrices.{RowFilled}
 use Rattle.memory.proofs.Places.{in-rows}
 
 -- two entries at one place are one
-same-row : (m i j k l : ℕ) → j < m → l < m → k * m + l ≡ i * m + j → k ≡ i
+pub same-row : (m i j k l : ℕ) → j < m → l < m → k * m + l ≡ i * m + j → k ≡ i
 same-row m i j k l hj hl e = go (decLt k i) (decLt i k)
   where
     go : Dec (k < i) → Dec (i < k) → k ≡ i

@@ -9,7 +9,7 @@ use lib.ListN.{length, getD, set, length-map}
 use mir.Syntax.{w32}
 use mir.Val.{SFits, ofZ, toZ}
 use mir.ValLaws.{toZ-ofZ}
-use Rattle.model.specs.Sizes.{mostDepartures, mostNumbers, zoneSize}
+use Rattle.model.specs.Sizes.{mostDepartures, mostNumbers, zoneSize, mostTimesAtOnce}
 use Rattle.model.specs.Bound as B
 use Rattle.model.specs.Bound.{Bound}
 use Rattle.model.specs.Network.{blank}
@@ -27,8 +27,8 @@ zone-fits {n} d = let k : suc n ≤ suc mostDepartures = omega arith in mul-le-m
 pub in-rows : (m i j k : ℕ) → i < k → j < m → i * m + j < k * m
 in-rows m i j k h l = let p : suc i * m ≤ k * m = mul-le-mul-right m h in omega arith
 
-pub few-places : (m i j : ℕ) → m ≤ suc mostDepartures → i ≤ mostDepartures → j < m → i * m + j < mostNumbers
-few-places m i j h hi hj = omega (arith, in-rows m i j (suc mostDepartures) (omega arith) hj)
+pub few-places : (m i j : ℕ) → m ≤ suc mostTimesAtOnce → i ≤ mostTimesAtOnce → j < m → i * m + j < zoneSize mostTimesAtOnce
+few-places m i j h hi hj = omega (arith, in-rows m i j (suc mostTimesAtOnce) (omega arith) hj)
 
 -- ---- an element, and a store, of a list that a function is mapped over
 pub getD-in : {X Y : Type 0} (f : X → Y) (xs : List X) (k : ℕ) (x : X) (y : Y) → k < length xs → getD (map f xs) k y ≡ f (getD xs k x)

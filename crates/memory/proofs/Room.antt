@@ -16,12 +16,11 @@ use Rattle.model.proofs.Sizes.{made-everything, made-lists, most-zone}
 use Rattle.memory.specs.Numbers.{Limit}
 
 -- what is built of a zone of list k
-building-room : (n k : ℕ) → n ≤ mostDepartures → k ≤ mostCycles → n * (n * (boundLimit + timesApart * k) + timesApart) ≤ Limit
+building-room : (n k : ℕ) → n ≤ mostDepartures → k ≤ mostCycles → 4 * n * (boundLimit + timesApart * k + timesApart) ≤ Limit
 building-room n k few cycles =
-    let most = mostDepartures * (boundLimit + timesApart * mostCycles) + timesApart in
-    let b : n * (boundLimit + timesApart * k) + timesApart ≤ most = omega (arith, most-zone n k few cycles) in
-    let m : n * (n * (boundLimit + timesApart * k) + timesApart) ≤ mostDepartures * most = mul-le-mul few b in
-    omega arith
+    let b : boundLimit + timesApart * k + timesApart ≤ boundLimit + timesApart * suc mostCycles = omega arith in
+    let m : 4 * n ≤ 4 * mostDepartures = omega arith in
+    omega (arith, mul-le-mul m b)
 
 pub target-meetable : (n : ℕ) (b : List Bound) → n ≤ mostDepartures → PatternSmall n boundLimit b → Meetable n b Limit (everything (suc n))
 target-meetable n b few small =

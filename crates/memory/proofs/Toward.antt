@@ -36,7 +36,7 @@ module _ {n L : ℕ} {d₀ : Matrix} {ms : List Constraint} {d : Matrix} where
     pub first-of : Takes n L d ks
     first-of =
         let t = rw (p .is) at (w .taking) in
-        record { departures = t .departures; closed = t .closed; fits = every-split ks ls (t .fits) .0; fitting = fitting-front ks ls (t .fitting) }
+        record { few = t .few; closed = t .closed; fits = every-split ks ls (t .fits) .0; fitting = fitting-front ks ls (t .fitting) }
 
     split-rest : foldl (constrain (suc n)) (leaves n d ks) ls ≡ leaves n d₀ ms
     split-rest = sym (foldl-append (constrain (suc n)) (some d) ks ls) ∙ rw (p .is) at (w .rest)
@@ -52,7 +52,7 @@ module _ {n L : ℕ} {d₀ : Matrix} {ms : List Constraint} {d : Matrix} where
         let t = rw (p .is) at (w .taking) in
         record {
           taking = record {
-            departures = t .departures;
+            few = t .few;
             closed = closed-some (rw e at (all-closed (suc n) (closed (t .closed)) (first-of .fits)));
             fits = every-split ks ls (t .fits) .1;
             fitting = rw e at (fitting-rest ks ls (t .fitting));

@@ -5,7 +5,7 @@ use mathlib.Core.List.{List}
 use lib.IntN.{ℤ, natAbs}
 use lib.ListN.{length}
 use Rattle.model.specs.declared.Slot.{Slot}
-use Rattle.model.specs.Sizes.{tableSize, patternSize, zoneSize, mostNumbers}
+use Rattle.model.specs.Sizes.{tableSize, patternSize, zoneSize, mostTimesAtOnce}
 use Rattle.model.specs.Bound.{Bound}
 use Rattle.model.specs.Network.{Time, secsOf}
 use Rattle.model.specs.Faults.{timeOf}
@@ -13,11 +13,12 @@ use Rattle.model.specs.Conditions.{Departures, Small}
 use Rattle.memory.specs.declared.Number.{Number}
 use Rattle.memory.specs.Numbers.{asBound, InMemory}
 
--- ---- a zone, the table and a pattern of n departures
+-- ---- a zone of n times beside the clock, few enough to be tightened at once
 pub record ZoneIn (n : ℕ) (z : List ℤ) : Type 0 where
-  pub departures : Departures n
+  pub few : n ≤ mostTimesAtOnce
   pub size : length z ≡ zoneSize n
 
+-- ---- the table and a pattern of n departures
 pub record TableIn (n : ℕ) (times : List ℤ) : Type 0 where
   pub departures : Departures n
   pub size : length times ≡ tableSize n
@@ -31,7 +32,7 @@ pub record PatternIn (n : ℕ) (p : List ℤ) : Type 0 where
 pub record PlaceOf (m i j r : ℕ) : Type 0 where
   pub is : r ≡ i * m + j
   pub below : (k : ℕ) → i < k → r < k * m
-  pub few : r < mostNumbers
+  pub few : r < zoneSize mostTimesAtOnce
 
 -- they have a place (i, j)
 pub record ZoneCell (n : ℕ) (z : List ℤ) (i j : ℕ) : Type 0 where

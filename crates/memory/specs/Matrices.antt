@@ -6,6 +6,7 @@ use mathlib.Core.List.{List, [], _∷_, foldl, map}
 use mathlib.Core.Option.{Option, some}
 use lib.IntN.{ℤ, natAbs}
 use Rattle.ints.specs.declared.Seconds.{Seconds}
+use Rattle.model.specs.Sizes.{mostTimesAtOnce}
 use Rattle.model.specs.Lists.{Every}
 use Rattle.model.specs.Bound.{Bound, LeB, plus, tighter}
 use Rattle.model.specs.Matrix.{Matrix, entry, Constraint, constrain}
@@ -46,7 +47,7 @@ pub record SomeLeft (n : ℕ) (d : Matrix) (ks : List Constraint) : Type 0 where
 
 -- d can take in the constraints ks: it holds the tightest bounds, and no set on the way has a finite bound beyond L
 pub record Takes (n L : ℕ) (d : Matrix) (ks : List Constraint) : Type 0 where
-  pub departures : Departures n
+  pub few : n ≤ mostTimesAtOnce
   pub closed : Closed (suc n) d
   pub fits : Every (Fits (suc n)) ks
   pub fitting : Fitting (suc n) L (some d) ks
@@ -66,6 +67,7 @@ values xs = map (λ x. x .0) xs
 
 -- the times xs of the departures before t are small, where a number of z is at most S in size
 pub record NextFrom (n S : ℕ) (z xs : List ℤ) (t : ℕ) : Type 0 where
+  pub departures : Departures n
   pub zone : ZoneIn n z
   pub to-n : t ≤ n
   pub small : (s : ℕ) → s < t → natAbs (clocked xs s) ≤ t * S

@@ -6,7 +6,7 @@ ghost use Prim.Native.Nat.{suc, _+_, _*_, _≤_, _<_};
 ghost use lib.IntN.{pos, _-ℤ_, natAbs};
 ghost use lib.ListN.{length, set, take};
 ghost use lib.Signed.{leZ, ltZ};
-ghost use Rattle.model.specs.Sizes.{mostDepartures, boundLimit, tableSize, patternSize, zoneSize, mostBounds};
+ghost use Rattle.model.specs.Sizes.{mostDepartures, boundLimit, tableSize, patternSize, zoneSize, mostBounds, mostTimesAtOnce};
 ghost use Rattle.model.specs.Lists.{Every};
 ghost use Rattle.model.specs.Bound.{upto, most, LeB, plus, tighter, negative};
 ghost use Rattle.model.specs.Matrix.{entry, diagonal};
@@ -202,13 +202,13 @@ pub fn diagonal(i: usize, j: usize) -> Number
 
 // Of rows and columns.
 fn product(a: usize, b: usize) -> usize
-    requires { ⌜ (a ≤ suc mostDepartures) × (b ≤ suc mostDepartures) ⌝ }
+    requires { ⌜ (a ≤ suc mostTimesAtOnce) × (b ≤ suc mostTimesAtOnce) ⌝ }
     ensures { λ r. ⌜ r ≡ a * b ⌝ }
 {
     a * b
 }
 
-// How many numbers the table, a pattern and a zone of n departures are.
+// How many numbers the table and a pattern of n departures are, and a zone of n times.
 pub fn table_size(n: usize) -> usize
     requires { ⌜ n ≤ mostDepartures ⌝ }
     ensures { λ r. ⌜ r ≡ tableSize n ⌝ }
@@ -224,7 +224,7 @@ pub fn pattern_size(n: usize) -> usize
 }
 
 pub fn zone_size(n: usize) -> usize
-    requires { ⌜ n ≤ mostDepartures ⌝ }
+    requires { ⌜ n ≤ mostTimesAtOnce ⌝ }
     ensures { λ r. ⌜ r ≡ zoneSize n ⌝ }
 {
     product(n + 1, n + 1)
@@ -232,7 +232,7 @@ pub fn zone_size(n: usize) -> usize
 
 // The place of (i, j) in rows of m numbers.
 pub fn place(m: usize, i: usize, j: usize) -> usize
-    requires { ⌜ (m ≤ suc mostDepartures) × (i ≤ mostDepartures) × (j < m) ⌝ }
+    requires { ⌜ (m ≤ suc mostTimesAtOnce) × (i ≤ mostTimesAtOnce) × (j < m) ⌝ }
     ensures { λ r. ⌜ PlaceOf m i j r ⌝ }
 {
     i * m + j

@@ -121,7 +121,7 @@ module _ (m : ℕ) (d : Matrix) where
       set-next v f = upto-next (update x t v) (λ s h. update-other x t v s (omega arith)) (rw update-same f)
 
     -- times below t that keep to the bounds among them are those of a member: r more are set
-    set-all : (r t : ℕ) (x : ℕ → ℤ) → r + t ≡ m → Upto t x → (y : ℕ → ℤ) × Member m d y × ((s : ℕ) → s < t → y s ≡ x s)
+    pub set-all : (r t : ℕ) (x : ℕ → ℤ) → r + t ≡ m → Upto t x → (y : ℕ → ℤ) × Member m d y × ((s : ℕ) → s < t → y s ≡ x s)
     set-all zero t x e ok = let same : t ≡ m = omega arith in (x, rw same at ok, λ s h. refl)
     set-all (suc r) t x e ok =
         let (v, f) = next-time t x (omega arith) ok in

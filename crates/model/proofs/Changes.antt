@@ -25,15 +25,11 @@ use Rattle.model.specs.Faults.{caseFault, roomFault, callFault}
 use Rattle.model.specs.Changes.{timePlace, changed, changeFault, preview, workspaceAfterPreview, PreviewIs, commitFault, commit, PreviewDemands}
 use Rattle.model.specs.Conditions.{InLimit}
 use Rattle.model.proofs.Limits.{orElse-none, when-none, or-is-false, ltb-is-false, entryFault-none, rowsFault-none, no-fault}
-use Rattle.model.proofs.Limits.{RowsInLimit, no-row, row}
+use Rattle.model.proofs.Limits.{RowsInLimit, no-row, row, orElse-with-none}
 use Rattle.model.proofs.Places.{getD-times}
 use Rattle.model.proofs.DemandsHold.{demands}
 
 -- ---- the fault of one changed entry
-orElse-with-none : {X : Type 0} (o : Option X) → orElse o none ≡ o
-orElse-with-none none = refl
-orElse-with-none (some x) = refl
-
 -- among entries within the limit
 entryFault-set : (limit : ℕ) (f : ℕ → Fault) (p : ℕ) {es : List Slot} (k : ℕ) (e : Slot) → Every (InLimit limit) es → k < length es
     → entryFault (over limit f) p (set es k e) ≡ over limit f (p + k) e

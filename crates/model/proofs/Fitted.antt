@@ -1,20 +1,25 @@
 -- No set on the way passes the limit: the laws of Fitting, and that it holds of sets that are built from small constraints.
-use Prim.Native.Nat.{ℕ, suc, _+_, _*_, _≤_}
+use Prim.Native.Nat.{ℕ, zero, suc, _+_, _*_, _-_, _≤_, _<_}
 use native.Mathlib.Omega.{arith}
+use native.Mathlib.Nat.{mul-le-mul-right}
 use mathlib.Core.Path.{_≡_, refl}
-use mathlib.Core.List.{List, [], _∷_, _++_, foldl, append-nil}
+use mathlib.Core.List.{List, [], _∷_, _++_, flatten, foldl, append-nil}
 use mathlib.Core.Option.{Option, none, some}
 use Rattle.model.specs.Sizes.{timesApart, boundLimit}
-use Rattle.model.specs.Lists.{Every, done, both}
+use Rattle.model.specs.Lists.{tabulate, Every, done, both}
 use Rattle.model.specs.Bound.{Bound}
-use Rattle.model.specs.Matrix.{Matrix, Constraint, constrain}
+use Rattle.model.specs.Matrix.{Matrix, everything, Constraint, constrain, tighten}
 use Rattle.model.specs.Network.{Time}
-use Rattle.model.specs.Conditions.{Fits, Small, AllSmall, Made, TimesSmall, PatternSmall, Bounded, Fitting, gone, last, more, Buildable, Meetable}
+use Rattle.model.specs.Conditions.{Fits, AllSmall, TimesSmall, PatternSmall, Selection, Bounded, Fitting, gone, last, more, Buildable, Meetable}
 use Rattle.model.proofs.Listed.{every-map}
 use Rattle.model.proofs.Patterns.{pattern-fits}
 use Rattle.model.proofs.Size.{small-mono}
-use Rattle.model.proofs.Preimage.{cols, at-rows, selection-fits}
-use Rattle.model.proofs.Sizes.{made-small, made-all, made-everything, row-small, pattern-small}
+use Rattle.model.proofs.Spread.{Made, Spread, spread-each, spread-more, spread-small, Near, small}
+use Rattle.model.proofs.Rows.{of-row}
+use Rattle.model.proofs.Selections.{chosen-fits}
+use Rattle.model.proofs.Preimage.{col, cols, front, front-more, rows-fit, selection-front}
+use Rattle.model.proofs.PartSizes.{part, next-near}
+use Rattle.model.proofs.Sizes.{made-everything, pattern-small}
 
 module _ {m L : ℕ} where
   -- the set itself, and one step
@@ -43,31 +48,52 @@ module _ {m L : ℕ} where
   fitting-rest [] ls f = f
   fitting-rest (k ∷ ks) ls f = fitting-rest ks ls (fitting-step f)
 
+  -- a set, if there is one
+  fitting-some : (o : Option Matrix) {ks : List Constraint} → ((d : Matrix) → o ≡ some d → Fitting m L (some d) ks) → Fitting m L o ks
+  fitting-some none f = gone
+  fitting-some (some d) f = f d refl
+
   -- what is left in the end
   pub fitting-left : {o : Option Matrix} (ks : List Constraint) {c : Matrix} → Fitting m L o ks → foldl (constrain m) o ks ≡ some c → Bounded m L c
   fitting-left {o} ks f e = fitting-bounded (rw e at (fitting-rest ks [] {o = o} (rw (append-nil ks) f)))
 
--- a set that is made of small constraints, and further ones
-module _ {n B L : ℕ} (limit : n * B ≤ L) where
-  made-bounded : {z : Matrix} → Made n B z → Bounded (suc n) L z
-  made-bounded m i j hi hj = small-mono limit (made-small m i j hi hj)
+-- a set that is given by constraints of at most B, but for those on s, and further such
+module _ {n m B r s L : ℕ} (at : s < suc m) (room : (m + r + r) * B ≤ L) where
+  spread-bounded : {z : Matrix} → Spread n m (Near B r s) z → Bounded (suc n) L z
+  spread-bounded sp i j hi hj = small-mono room (spread-small at sp i j hi hj)
 
-  pub made-fitting : {z : Matrix} {ks : List Constraint} → Made n B z → Every (Fits (suc n)) ks → AllSmall B ks → Fitting (suc n) L (some z) ks
-  made-fitting m done done = last (made-bounded m)
-  made-fitting {z} {ks = k ∷ ks} m (both f fs) (both s ss) =
-      more (made-bounded m) (go (constrain (suc n) (some z) k) (λ c e. made-fitting (made-all (k ∷ []) m (both f done) (both s done) e) fs ss))
-    where
-      go : (o : Option Matrix) → ((c : Matrix) → o ≡ some c → Fitting (suc n) L (some c) ks) → Fitting (suc n) L o ks
-      go none f = gone
-      go (some c) f = f c refl
+  spread-fitting : {z : Matrix} {ks : List Constraint} → Spread n m (Near B r s) z → Every (Fits (suc n)) ks → Every (Near B r s) ks
+      → Fitting (suc n) L (some z) ks
+  spread-fitting sp done done = last (spread-bounded sp)
+  spread-fitting {z} {ks = k ∷ ks} sp (both f fs) (both h hs) =
+      more (spread-bounded sp) (fitting-some (constrain (suc n) (some z) k) (λ c e. spread-fitting (spread-more sp (both f done) (both h done) e) fs hs))
 
--- so its preimages can be built within a limit that has room for them, and what it has in common with a pattern
 module _ {n B L : ℕ} where
-  pub made-buildable : (a : List Time) → TimesSmall n a → n * (n * B + timesApart) ≤ L → {d : Matrix} → Made n B d → Buildable n a L d
-  made-buildable a ts room {d} m sel q =
-      made-fitting room (made-everything n (n * B + timesApart)) (selection-fits n a d sel q)
-      (at-rows n a d sel q (λ c. Small (n * B + timesApart) (c .limit)) (λ r h.
-      row-small n a ts d (n * B) (made-small m) (omega arith) (λ l u. cols n a sel q l (omega arith)) (cols n a sel q (suc r) (omega arith))))
+  pub made-fitting : n * B ≤ L → {z : Matrix} {ks : List Constraint} → Made n B z → Every (Fits (suc n)) ks → AllSmall B ks
+      → Fitting (suc n) L (some z) ks
+  made-fitting room m fits limits =
+      let e : n + 0 + 0 ≡ n = omega arith in
+      spread-fitting {m = n} {B = B} {r = 0} {s = 0} (omega arith) (rw e room) (spread-each (λ k. small) m) fits (every-map (λ k. small) limits)
 
+  -- what a zone has in common with a pattern
   pub made-meetable : (b : List Bound) → PatternSmall n boundLimit b → boundLimit ≤ B → n * B ≤ L → {d : Matrix} → Made n B d → Meetable n b L d
-  made-meetable b small wider room m = made-fitting room m (pattern-fits n b) (every-map (λ c. small-mono wider) (pattern-small n b small))
+  made-meetable b limits wider room m = made-fitting room m (pattern-fits n b) (every-map (λ c. small-mono wider) (pattern-small n b limits))
+
+-- its preimages, row by row
+module _ {n B L : ℕ} (a : List Time) (ts : TimesSmall n a) (room : 4 * n * (B + timesApart) ≤ L) where
+  front-fitting : {d : Matrix} → Made n B d → (sel : List ℕ) → Selection n a n 1 sel → (r : ℕ) → r ≤ n
+      → Fitting (suc n) L (some (everything (suc n))) (front n a d sel r)
+  unfolding tabulate flatten tighten
+  front-fitting m sel q zero few = made-fitting {B = 0} (omega arith) (made-everything n 0) done done
+  front-fitting {d} m sel q (suc r) few =
+      let s = col sel (suc r) in
+      let at : s < suc n = chosen-fits (cols n a sel q (suc r) (omega arith)) in
+      let wide : (n + (n - r) + n + n) * (B + timesApart) ≤ L
+      = omega (arith, mul-le-mul-right {m = n + (n - r) + n + n} {n = 4 * n} (B + timesApart) (omega arith)) in
+      rw (front-more n a d sel r)
+      (fitting-append (front-fitting m sel q r (omega arith)) (fitting-some (tighten (suc n) (front n a d sel r)) (λ p left.
+      spread-fitting {B = B + timesApart} {r = n} {s = s} (omega arith) wide (spread-each (λ k. small) (part n a sel q r (omega arith) ts m left))
+      (of-row (Fits (suc n)) n a d (0 ∷ sel) (suc r) s (rows-fit n a d sel q r few)) (next-near n a sel q ts m r few))))
+
+  pub made-buildable : {d : Matrix} → Made n B d → Buildable n a L d
+  made-buildable {d} m sel q = rw (selection-front n a d sel q) (front-fitting m sel q n (omega arith))

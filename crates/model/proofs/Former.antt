@@ -14,6 +14,7 @@ use lib.Signed.{leZ, ltZ}
 use lib.Dec.{ltb}
 use lib.ListN.{length}
 use Rattle.ints.proofs.Integers.{ints, pos-ud}
+use Rattle.model.specs.Forms.{old}
 use Rattle.model.specs.Lists.{when, orElse, anyOf, Every}
 use Rattle.model.specs.Bound as B
 use Rattle.model.specs.Bound.{Bound, upto, most, halves, plus, tighter, negative, sameZ, sameBound, scale}
@@ -24,7 +25,7 @@ use Rattle.model.specs.Search.{boundTooLarge, someLarge, dry, settled, s
 use Rattle.model.specs.Faults.{boundOf, network, patternsFault, formFault}
 use Rattle.model.specs.Answers.{answered, answer}
 use Rattle.model.specs.Demands.{InLimits, Witness, Met}
-use Rattle.model.specs.Conditions.{BoundInLimit, Regular}
+use Rattle.model.specs.Conditions.{BoundIn, Regular}
 use Rattle.model.proofs.Bounds.{halves-ud, bit-most}
 use Rattle.model.proofs.Scale.{mul-ud, scale-one}
 use Rattle.model.proofs.Listed.{every-map, map-every}
@@ -140,8 +141,8 @@ pub same-answer : (c : Case) (capacity size : ℕ) → InLimits c capacity size 
 same-answer c capacity size limits none-strict =
     answer-in c capacity size limits ∙ ap answered (same-outcome (network c) (limits-of c capacity size limits .table .regular) none-strict capacity)
 
--- ---- a case in the packed form, which has no place for a mark
-unmarked-plain : {es : List Limit} → Every (BoundInLimit false) es → anyOf isStrict (map boundOf es) ≡ false
+-- ---- a case for the old form, which has no place for a mark
+unmarked-plain : {es : List Limit} → Every (BoundIn old) es → anyOf isStrict (map boundOf es) ≡ false
 unfolding isStrict boundOf
 unmarked-plain h = not-any isStrict (map-every boundOf (every-map (λ e b. plain (e .has) e (b .1)) h))
   where
@@ -149,8 +150,8 @@ unmarked-plain h = not-any isStrict (map-every boundOf (every-map (λ e b. plain
     plain true e h = h
     plain false e h = refl
 
-pub form-plain : (c : Case) → formFault c ≡ none → someStrict (network c) ≡ false
+pub form-plain : (c : Case) → formFault old c ≡ none → someStrict (network c) ≡ false
 unfolding formFault patternsFault network
 form-plain c h =
     let facts = simp no-fault at h in
-    or-is-false _ _ .1 (unmarked-plain (facts .1 .0), unmarked-plain (facts .1 .1))
+    or-is-false _ _ .1 (unmarked-plain (facts .1 .1 .1 .0), unmarked-plain (facts .1 .1 .1 .1))

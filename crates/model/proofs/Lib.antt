@@ -33,11 +33,13 @@ pub mod Patterns
 pub mod ZoneLists
 pub mod ZoneSets
 pub mod Size
+pub mod Spread
 pub mod Start
 pub mod Plain
 pub mod Wholes
 pub mod Searched
 pub mod Dry
+pub mod PartSizes
 pub mod Sizes
 pub mod Fitted
 pub mod Beyond
@@ -47,6 +49,7 @@ pub mod Digits
 pub mod Parsed
 pub mod Spelled
 pub mod Inverse
+pub mod Complement
 pub mod Bytes
 pub mod RoundTrip
 pub mod Writer

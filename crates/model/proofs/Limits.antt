@@ -3,7 +3,7 @@
 use Prim.Native.Nat.{ℕ, zero, suc, _+_, _*_, _-_, _≤_, _<_}
 use native.Mathlib.Omega.{arith}
 use native.Mathlib.Nat.{zero-mul}
-use mathlib.Core.Path.{_≡_, refl, sym, ap, _∙_}
+use mathlib.Core.Path.{_≡_, refl, sym, ap, ap₂, _∙_}
 use mathlib.Core.Logic.{_↔_}
 use mathlib.Core.List.{List, [], _∷_, map}
 use mathlib.Core.Option.{Option, none, some}
@@ -16,19 +16,23 @@ use lib.Seq.{getD-drop, drop-drop, take-add}
 use borrow.Author.Tests.{ltb-false, le-ltb, not-false}
 use Rattle.ints.specs.declared.Seconds.{Seconds}
 use Rattle.ints.proofs.Integers.{impossible}
-use Rattle.model.specs.Sizes.{mostCycles, mostZones, timeLimit, boundLimit, startLimit, tableSize, workspaceSize}
+use Rattle.model.specs.Sizes.{mostDepartures, mostCycles, mostZones, timeLimit, boundLimit, startLimit, tableSize, workspaceSize}
 use Rattle.model.specs.declared.Slot.{Slot}
 use Rattle.model.specs.declared.Limit.{Limit}
 use Rattle.model.specs.declared.Case.{Case}
+use Rattle.model.specs.declared.Form.{Form}
 use Rattle.model.specs.declared.Fault.{Fault}
+use Rattle.model.specs.declared.Fault.the-variants as fault
+use Rattle.model.specs.Forms.{wide}
 use Rattle.model.specs.Lists.{anyOf, when, orElse, Every, done, both}
 use Rattle.model.specs.Bound as B
 use Rattle.model.specs.Bound.{Bound, upto}
 use Rattle.model.specs.Pattern.{pairPlace, pairBound}
 use Rattle.model.specs.Network.{Time, blank, secs, time, isTime, regular}
-use Rattle.model.specs.Faults.{timeOf, tableOf, boundOf, nothing, present, stated, network, beyond, over, boundFault, entryFault, rowsFault}
-use Rattle.model.specs.Faults.{outside, tableFault, patternsFault, caseFault, formFault, roomFault, callFault, runFault}
-use Rattle.model.specs.Conditions.{Departures, Regular, Small, free, sized, InLimit, BoundInLimit, TableLimits, Limits}
+use Rattle.model.specs.Faults.{timeOf, tableOf, boundOf, nothing, present, stated, network, beyond, over, boundFault, boundFaultIn, entryFault}
+use Rattle.model.specs.Faults.{rowsFault, outside, departuresFault, timesFault, tableFault, patternsFault, caseFault, formFault, roomFault}
+use Rattle.model.specs.Faults.{callFault, runFault}
+use Rattle.model.specs.Conditions.{Departures, Regular, Small, free, sized, InLimit, BoundInLimit, BoundIn, TableLimits, Limits}
 use Rattle.model.proofs.Places.{getD-times}
 use Rattle.model.proofs.Listed.{every-append, every-map, of-both, at-getD, map-every, of-map-every}
 
@@ -79,16 +83,24 @@ pub over-none : (limit : ℕ) (f : ℕ → Fault) (p : ℕ) (e : Slot) → (over
 unfolding over
 over-none limit f p e = when-none (beyond limit e) (f p)
 
-pub boundFault-none : (marks : Bool) (p : ℕ) (e : Limit) → (boundFault marks p e ≡ none) ↔ BoundInLimit marks e
+boundFault-none : (p : ℕ) (e : Limit) → (boundFault p e ≡ none) ↔ BoundInLimit e
 unfolding boundFault
-boundFault-none marks p e = simp (orElse-none, over-none, when-none) (λ h. h, λ h. h)
+boundFault-none p e = over-none boundLimit fault.Bound p (stated e)
+
+-- and one for a form
+pub boundFaultIn-none : (f : Form) (p : ℕ) (e : Limit) → (boundFaultIn f p e ≡ none) ↔ BoundIn f e
+unfolding boundFaultIn
+boundFaultIn-none f p e = simp (orElse-none, boundFault-none, when-none) (λ h. h, λ h. h)
 
 -- all of them
 pub entryFault-none : (limit : ℕ) (f : ℕ → Fault) (p : ℕ) (es : List Slot) → (entryFault (over limit f) p es ≡ none) ↔ Every (InLimit limit) es
 entryFault-none limit f = every-none (over-none limit f)
 
-pub boundsFault-none : (marks : Bool) (p : ℕ) (es : List Limit) → (entryFault (boundFault marks) p es ≡ none) ↔ Every (BoundInLimit marks) es
-boundsFault-none marks = every-none (boundFault-none marks)
+pub boundsFault-none : (p : ℕ) (es : List Limit) → (entryFault boundFault p es ≡ none) ↔ Every BoundInLimit es
+boundsFault-none = every-none boundFault-none
+
+pub boundsFaultIn-none : (f : Form) (p : ℕ) (es : List Limit) → (entryFault (boundFaultIn f) p es ≡ none) ↔ Every (BoundIn f) es
+boundsFaultIn-none f = every-none (boundFaultIn-none f)
 
 -- r rows of n entries each: every time is in its limit, and each row holds a time
 pub data RowsInLimit (n : ℕ) : ℕ → List Slot → Type 0 where
@@ -127,7 +139,17 @@ rowsFault-none n (suc r) p es =
     (λ h. row (h .0) (h .1 .0) (h .1 .1), of-row)
 
 -- with these `simp` turns the absence of a fault into what it says, and back
-pub ruleset no-fault = (orElse-none, when-none, or-is-false, not-is-false, ltb-is-false, entryFault-none, boundsFault-none, rowsFault-none)
+pub ruleset no-fault = (
+  orElse-none,
+  when-none,
+  or-is-false,
+  not-is-false,
+  ltb-is-false,
+  entryFault-none,
+  boundsFault-none,
+  boundsFaultIn-none,
+  rowsFault-none,
+)
 
 -- ---- the numbers of entries in the limit
 -- entries that are read as `value` of their number, or as `no` where absent: what holds of `no` and of `value` at small numbers holds of them
@@ -151,13 +173,13 @@ module _ {limit : ℕ} {es : List Slot} (h : Every (InLimit limit) es) where
       (λ e. impossible cc) (λ z l e. let d : z ≡ v = cc in rw d at l) h p
 
 -- and so is a bound of a pattern
-pub bound-small : (marks : Bool) {es : List Limit} → Every (BoundInLimit marks) es → (n i j : ℕ) → Small boundLimit (pairBound n (map boundOf es) i j)
+pub bound-small : {es : List Limit} → Every BoundInLimit es → (n i j : ℕ) → Small boundLimit (pairBound n (map boundOf es) i j)
 unfolding boundOf pairBound
-bound-small marks {es} h n i j =
+bound-small {es} h n i j =
     elim (eqb i j) as (λ t. Small boundLimit (cond t B.Bound.none (getD (map boundOf es) (pairPlace n i j) B.Bound.none))) [
       | true ↦ free
       | false ↦ at-getD {P = Small boundLimit} B.Bound.none free (map-every boundOf (every-map (λ e l.
-          entry-in (Small boundLimit) (upto (e .strict)) B.Bound.none free (λ z. sized) (stated e) (l .0)) h)) (pairPlace n i j)
+          entry-in (Small boundLimit) (upto (e .strict)) B.Bound.none free (λ z. sized) (stated e) l) h)) (pairPlace n i j)
     ]
 
 -- ---- rows that hold a time
@@ -197,14 +219,49 @@ table-of : {n : ℕ} {es : List Slot} → Departures n → RowsInLimit n n es �
 unfolding time
 table-of d r = record { departures = d; regular = rows-regular r; times-small = λ i j. time-small (rows-in r) _ }
 
--- a case for the packed form has none of the faults 2 to 6
-pub form-case : (c : Case) → formFault c ≡ none → caseFault c ≡ none
-unfolding formFault caseFault patternsFault
-form-case c h =
+-- ---- faults for a packed form
+pub orElse-with-none : {X : Type 0} (o : Option X) → orElse o none ≡ o
+orElse-with-none none = refl
+orElse-with-none (some x) = refl
+
+orElse-assoc : {X : Type 0} (o p q : Option X) → orElse (orElse o p) q ≡ orElse o (orElse p q)
+orElse-assoc none p q = refl
+orElse-assoc (some x) p q = refl
+
+-- entries that are judged alike have the same first fault
+entryFault-same : {A : Type 0} {judge judge′ : ℕ → A → Option Fault} → ((p : ℕ) (e : A) → judge p e ≡ judge′ p e)
+    → (p : ℕ) (es : List A) → entryFault judge p es ≡ entryFault judge′ p es
+unfolding entryFault
+entryFault-same same p [] = refl
+entryFault-same same p (e ∷ es) = ap₂ orElse (same p e) (entryFault-same same (suc p) es)
+
+-- the wide form has a place for every case: the faults are those of the case
+pub wide-fault : (c : Case) → formFault wide c ≡ caseFault c
+unfolding formFault caseFault tableFault patternsFault boundFaultIn outside
+wide-fault c = has-place (ltb (c .n) 1) (ltb mostDepartures (c .n)) _ ∙ ap (orElse (departuresFault c)) bounds ∙ sym (orElse-assoc (departuresFault c) _ _)
+  where
+    has-place : (s t : Bool) (o : Option Fault)
+        → orElse (when (s || t) fault.Departures) (orElse (when t (fault.Form 0)) o) ≡ orElse (when (s || t) fault.Departures) o
+    has-place true t o = refl
+    has-place false true o = refl
+    has-place false false o = refl
+
+    same : (p : ℕ) (es : List Limit) → entryFault (boundFaultIn wide) p es ≡ entryFault boundFault p es
+    same = entryFault-same (λ p e. orElse-with-none (boundFault p e))
+
+    bounds : orElse (timesFault c 1 (c .horizon .0)) (patternsFault (boundFaultIn wide) c)
+        ≡ orElse (timesFault c 1 (c .horizon .0)) (patternsFault boundFault c)
+    bounds = ap (orElse (timesFault c 1 (c .horizon .0))) (ap₂ orElse (same _ _) (same _ _))
+
+-- a case that a form has a place for has none of the faults 2 to 6
+pub form-case : (f : Form) (c : Case) → formFault f c ≡ none → caseFault c ≡ none
+unfolding formFault caseFault tableFault patternsFault
+form-case f c h =
     let facts = simp no-fault at h in
-    let start = every-map {Q = BoundInLimit true} (λ e b. (b .0, refl)) (facts .1 .0) in
-    let target = every-map {Q = BoundInLimit true} (λ e b. (b .0, refl)) (facts .1 .1) in
-    simp no-fault (facts .0, (start, target))
+    simp no-fault ((facts .0, facts .1 .1 .0), (in-limit (facts .1 .1 .1 .0), in-limit (facts .1 .1 .1 .1)))
+  where
+    in-limit : {es : List Limit} → Every (BoundIn f) es → Every BoundInLimit es
+    in-limit = every-map (λ e b. b .0)
 
 module _ (c : Case) (capacity size : ℕ) (h : callFault c capacity size ≡ none) where
   -- the network of a call without a fault is in the limits
@@ -216,8 +273,8 @@ module _ (c : Case) (capacity size : ℕ) (h : callFault c capacity size ≡ non
         table = table-of (omega arith) (facts .0 .0 .1 .1);
         some-cycles = omega arith;
         few-cycles = omega arith;
-        start-small = bound-small true (facts .0 .1 .0) (c .n);
-        target-small = bound-small true (facts .0 .1 .1) (c .n);
+        start-small = bound-small (facts .0 .1 .0) (c .n);
+        target-small = bound-small (facts .0 .1 .1) (c .n);
       }
 
   -- Z is in its limits, and the workspace is long enough for it

@@ -6,20 +6,24 @@ use native.Mathlib.Nat.{mul-le-mul}
 use mathlib.Core.Path.{_≡_, refl}
 use mathlib.Core.List.{List, [], _∷_, _++_, map}
 use mathlib.Core.Bool.{Bool, true, false, cond}
-use lib.Dec.{leb, eqb}
+use mathlib.Core.Option.{Option, none, some}
+use lib.Dec.{ltb, leb, eqb}
 use lib.ListN.{length, take}
 use lib.Seq.{take-all, length-take-le, getD-take}
 use borrow.Author.Tests.{leb-true, leb-false, le-leb, ne-eqb}
-use Rattle.model.specs.Sizes.{mostDepartures, tableSize, timeLimit, boundLimit, patternSize, mostTimes, mostBounds}
-use Rattle.model.specs.Sizes.{departuresWidth, horizonWidth, timeWidth, boundWidth, mostBits, mostBytes}
+use Rattle.model.specs.Sizes.{mostDepartures, tableSize, patternSize, mostTimes, mostBounds}
+use Rattle.model.specs.Sizes.{wideLead, wideDigits, horizonWidth, timeWidth, boundWidth, mostWidth, mostBits, mostBytes}
 use Rattle.model.specs.declared.Slot.{Slot}
+use Rattle.model.specs.declared.Form.{Form}
 use Rattle.model.specs.declared.Fault.{Fault}
-use Rattle.model.specs.declared.Fault.the-variants as fault
+use Rattle.model.specs.Forms.{old, wide}
 use Rattle.model.specs.Network.{regular}
-use Rattle.model.specs.Faults.{timeOf, present, beyond}
-use Rattle.model.specs.Packed.{Reading, got, refused, andThen, bitAt, numAt, bits, signed, entry, entries, rows, bounds, zeros, fill, body, parse}
+use Rattle.model.specs.Faults.{timeOf}
+use Rattle.model.specs.Packed.{Reading, got, refused, andThen, bitAt, numAt, bits, Kind, timeKind, boundKind, unlessFaulty, entry, entries, rows}
+use Rattle.model.specs.Packed.{zeros, fill, body, parseAs, parse}
+use Rattle.model.specs.Conditions.{FormLimits}
 use Rattle.model.proofs.Digits.{num-same}
-use Rattle.model.proofs.Parsed.{num-small}
+use Rattle.model.proofs.Parsed.{old-form, wide-form, agreed-limits, places-few, num-small}
 
 data Agree {A : Type 0} (last : ℕ) : Reading A → Reading A → Type 0 where
   value : {a : A} {q : ℕ} → q ≤ last → Agree last (got a q) (got a q)
@@ -43,6 +47,10 @@ module _ {A : Type 0} {last : ℕ} where
   agree-later l (value {q} h) = value {q = q} (omega arith)
   agree-later l no-value = no-value
 
+  agree-unless : (o : Option Fault) (a : A) (q : ℕ) → q ≤ last → Agree last (unlessFaulty o a q) (unlessFaulty o a q)
+  agree-unless none a q l = value l
+  agree-unless (some f) a q l = no-value
+
 -- two lists of bytes whose bits below top are the same, neither of them shorter
 module _ (s t : List ℕ) (top : ℕ) (long : top ≤ 8 * length s) (long' : top ≤ 8 * length t) (same : (p : ℕ) → p < top → bitAt s p ≡ bitAt t p) where
   read-s : (w first p : ℕ) → p + w ≤ top → bits s w first p ≡ got (numAt t p w) (p + w)
@@ -58,33 +66,33 @@ module _ (s t : List ℕ) (top : ℕ) (long : top ≤ 8 * length s) (long' : top
   bits-agree : (w first p : ℕ) → p + w ≤ top → Agree (p + w) (bits s w first p) (bits t w first p)
   bits-agree w first p h = rw (read-s w first p h, read-t w first p h) (value {q = p + w} (omega arith))
 
-  entry-agrees : (w limit : ℕ) (f : ℕ → Fault) (p : ℕ) → p + suc w ≤ top → Agree (p + suc w) (entry s w limit f p) (entry t w limit f p)
+  -- and the number that is read is what w bits spell
+  bits-then : {B : Type 0} {end : ℕ} (w first p : ℕ) → p + w ≤ top → (f g : ℕ → ℕ → Reading B)
+      → ((v : ℕ) → v < 2 ^ w → Agree end (f v (p + w)) (g v (p + w))) → Agree end (andThen (bits s w first p) f) (andThen (bits t w first p) g)
+  bits-then w first p h f g k = rw (read-s w first p h, read-t w first p h) (k (numAt t p w) (num-small t p w))
+
+  entry-agrees : {A : Type 0} (k : Kind A) (p : ℕ) → p + suc (k .width) ≤ top → Agree (p + suc (k .width)) (entry k s p) (entry k t p)
   unfolding entry
-  entry-agrees w limit f p h =
+  entry-agrees k p h =
       agree-then (bits-agree 1 p p (omega arith)) (λ bit q l.
       agree-test (eqb bit 0) (value (omega arith))
-      (agree-then (bits-agree w p q (omega arith)) (λ raw r m.
-      agree-test (beyond limit (present (signed (2 ^ (w - 1)) raw))) no-value (value (omega arith)))))
+      (agree-then (bits-agree (k .width) p q (omega arith)) (λ raw r m. agree-unless (k .judge p (k .value raw)) (k .value raw) r (omega arith))))
 
-  entries-agree : (w limit : ℕ) (f : ℕ → Fault) (k p : ℕ) (before : List Slot) → p + k * suc w ≤ top
-      → Agree (p + k * suc w) (entries s w limit f k p before) (entries t w limit f k p before)
+  entries-agree : {A : Type 0} (k : Kind A) (count p : ℕ) (before : List A) → p + count * suc (k .width) ≤ top
+      → Agree (p + count * suc (k .width)) (entries k s count p before) (entries k t count p before)
   unfolding entries
-  entries-agree w limit f zero p before h = value {q = p} (omega arith)
-  entries-agree w limit f (suc k) p before h =
-      agree-then (entry-agrees w limit f p (omega arith)) (λ e q l.
-      agree-later (omega arith) (entries-agree w limit f k q (before ++ e ∷ []) (omega arith)))
+  entries-agree k zero p before h = value {q = p} (omega arith)
+  entries-agree k (suc count) p before h =
+      agree-then (entry-agrees k p (omega arith)) (λ e q l.
+      agree-later (omega arith) (entries-agree k count q (before ++ e ∷ []) (omega arith)))
 
-  rows-agree : (n k p : ℕ) (before : List Slot) → p + k * n * suc timeWidth ≤ top
-      → Agree (p + k * n * suc timeWidth) (rows s n k p before) (rows t n k p before)
+  rows-agree : (n count p : ℕ) (before : List Slot) → p + count * n * suc timeWidth ≤ top
+      → Agree (p + count * n * suc timeWidth) (rows s n count p before) (rows t n count p before)
   unfolding rows
   rows-agree n zero p before h = value {q = p} (omega arith)
-  rows-agree n (suc k) p before h =
-      agree-then (entries-agree timeWidth timeLimit fault.Time n p [] (omega arith)) (λ es q l.
-      agree-test (regular (map timeOf es)) (agree-later (omega arith) (rows-agree n k q (before ++ es) (omega arith))) no-value)
-
-  bounds-agree : (n p : ℕ) → p + patternSize n * suc boundWidth ≤ top → Agree (p + patternSize n * suc boundWidth) (bounds s n p) (bounds t n p)
-  unfolding bounds
-  bounds-agree n p h = agree-then (entries-agree boundWidth boundLimit fault.Bound (patternSize n) p [] h) (λ es q l. value l)
+  rows-agree n (suc count) p before h =
+      agree-then (entries-agree timeKind n p [] (omega arith)) (λ es q l.
+      agree-test (regular (map timeOf es)) (agree-later (omega arith) (rows-agree n count q (before ++ es) (omega arith))) no-value)
 
   zeros-agree : (k p : ℕ) → p + k ≤ top → Agree (p + k) (zeros s k p) (zeros t k p)
   unfolding zeros
@@ -99,27 +107,39 @@ module _ (s t : List ℕ) (top : ℕ) (long : top ≤ 8 * length s) (long' : top
       agree-then (zeros-agree ((8 - p % 8) % 8) p (omega arith)) (λ z q l.
       rw (ne-eqb q (8 * length s) (λ e. omega arith), ne-eqb q (8 * length t) (λ e. omega arith)) no-value)
 
-  body-agrees : (n h p : ℕ) → n ≤ mostDepartures → p ≤ departuresWidth + horizonWidth → mostBits + 8 ≤ top
-      → Agree (mostBits + 8) (body s n h p) (body t n h p)
-  unfolding body
-  body-agrees n h p few near room =
-      let squares : tableSize n ≤ mostTimes = mul-le-mul few few in
-      let more : suc n ≤ suc mostDepartures = omega arith in
-      let pairs : patternSize n ≤ mostBounds = mul-le-mul few more in
-      agree-then (rows-agree n n p [] (omega arith)) (λ times a l.
-      agree-then (bounds-agree n a (omega arith)) (λ start b m.
-      agree-then (bounds-agree n b (omega arith)) (λ target c k.
-      agree-then (fill-agrees c (omega arith)) (λ z d j.
-      value {q = d} (omega arith)))))
+  module _ {f : Form} (lim : FormLimits f) where
+    body-agrees : (n h p : ℕ) → n ≤ mostDepartures → p ≤ wideLead + wideDigits + horizonWidth → mostBits + 8 ≤ top
+        → Agree (mostBits + 8) (body f s n h p) (body f t n h p)
+    unfolding body
+    body-agrees n h p few near room =
+        let squares : tableSize n ≤ mostTimes = mul-le-mul few few in
+        let more : suc n ≤ suc mostDepartures = omega arith in
+        let width : suc (f .mark + boundWidth) ≤ suc mostWidth = omega arith in
+        let pairs : patternSize n * suc (f .mark + boundWidth) ≤ mostBounds * suc mostWidth = mul-le-mul (mul-le-mul few more) width in
+        agree-then (rows-agree n n p [] (omega arith)) (λ times a l.
+        agree-then (entries-agree (boundKind f) (patternSize n) a [] (omega arith)) (λ start b m.
+        agree-then (entries-agree (boundKind f) (patternSize n) b [] (omega arith)) (λ target c k.
+        agree-then (fill-agrees c (omega arith)) (λ z d j.
+        value {q = d} (omega arith)))))
+
+    parse-agrees-as : mostBits + 8 ≤ top → Agree (mostBits + 8) (parseAs f s) (parseAs f t)
+    unfolding parseAs
+    parse-agrees-as room =
+        agree-then (bits-agree (f .lead) 0 0 (omega arith)) (λ z a l.
+        agree-test (ltb 0 z) no-value
+        (bits-then (f .digits) a a (omega arith) _ _ (λ n small.
+        let b = a + f .digits in
+        agree-test (eqb n 0) no-value
+        (agree-then (bits-agree horizonWidth b b (omega arith)) (λ m q k.
+        body-agrees n (m + 1) q (omega (arith, places-few lim)) (omega arith) room)))))
 
   parse-agrees : mostBits + 8 ≤ top → Agree (mostBits + 8) (parse s) (parse t)
   unfolding parse
-  parse-agrees room =
-      let n = numAt t 0 departuresWidth in
-      rw (read-s departuresWidth 0 0 (omega arith), read-t departuresWidth 0 0 (omega arith))
-      (agree-test (eqb n 0) no-value
-      (agree-then (bits-agree horizonWidth departuresWidth departuresWidth (omega arith)) (λ m q l.
-      body-agrees n (m + 1) q (omega (arith, num-small t 0 departuresWidth)) l room)))
+  parse-agrees room = agree-then (bits-agree wideLead 0 0 (omega arith)) (λ z a l. chosen (eqb z 0))
+    where
+      chosen : (b : Bool) → Agree (mostBits + 8) (parseAs (cond b wide old) s) (parseAs (cond b wide old) t)
+      chosen true = parse-agrees-as (agreed-limits wide-form) room
+      chosen false = parse-agrees-as (agreed-limits old-form) room
 
 bit-of-prefix : (m : ℕ) (s : List ℕ) (p : ℕ) → p / 8 < m → bitAt (take m s) p ≡ bitAt s p
 unfolding bitAt

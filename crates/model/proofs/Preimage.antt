@@ -5,20 +5,23 @@ use native.Mathlib.Omega.{arith}
 use native.Mathlib.Decide.{decLt}
 use mathlib.Core.Path.{_≡_, refl, sym, ap, _∙_}
 use mathlib.Core.Logic.{_↔_}
-use mathlib.Core.List.{List, [], _∷_}
+use mathlib.Core.List.{List, [], _∷_, _++_, flatten}
 use lib.IntN.{ℤ, pos, _+ℤ_, _-ℤ_}
 use lib.ListN.{getD}
 use Rattle.ints.proofs.Integers.{up, dn, ints, add-ud, sub-ud}
 use Rattle.model.specs.Bound.{Bound, most, any, Holds, plus}
-use Rattle.model.specs.Matrix.{Matrix, entry, Constraint, Member}
+use Rattle.model.specs.Matrix.{Matrix, entry, Constraint, tighten, Member}
 use Rattle.model.specs.Network.{Time, blank, secs, time, after, secsOf, next}
-use Rattle.model.specs.Search.{chosen, slack, keeps, rowsConstraints, preimage}
-use Rattle.model.specs.Lists.{Every}
+use Rattle.model.specs.Search.{chosen, slack, keeps, rowConstraints, rowsConstraints, preimage}
+use Rattle.model.specs.Lists.{tabulate, Every}
 use Rattle.model.specs.Conditions.{Closed, Fits, Column, Chosen, Cols, image, sum, Selection}
 use Rattle.model.proofs.Bounds.{bounds, nat-leB, holds-none, across}
 use Rattle.model.proofs.MaxPlus.{LeT, low, leT-antisym, leT-nat, nat-leT, latestOf-upper, latestOf-least}
 use Rattle.model.proofs.Zones.{In, ClosedZone, Keeps, tighten-closed, tighten-in}
-use Rattle.model.proofs.Rows.{Row, behind, rows-of, of-rows}
+use Rattle.model.proofs.Rows.{Row, behind, row-of, of-row, by-rows, flatten-snoc}
+use Rattle.model.proofs.Listed.{every-tabulate, at-tabulate, every-flatten, in-flatten}
+use Rattle.model.proofs.Tabulated.{tabulate-snoc}
+use Rattle.model.proofs.Mapped.{through}
 use Rattle.model.proofs.Selections.{chosen-column, chosen-fits, selection-length, selection-cols}
 
 -- in row i column s attains the largest sum, ties included
@@ -33,6 +36,13 @@ slack-room u w c (secs t) = (
   λ h. nat-leT (omega (bounds, sub-ud u w, sub-ud c t, add-ud u t, add-ud w c)),
   λ h. nat-leB (omega (bounds, leT-nat, sub-ud u w, sub-ud c t, add-ud u t, add-ud w c)),
 )
+
+-- a bound on two sums, as one on their first parts
+pub holds-sums : (u v c e : ℤ) (b : Bound) → Holds (u -ℤ v) (plus b (most (e -ℤ c))) ↔ Holds ((u +ℤ c) -ℤ (v +ℤ e)) b
+holds-sums u v c e b =
+    let apart : u -ℤ v -ℤ (e -ℤ c) ≡ (u +ℤ c) -ℤ (v +ℤ e)
+    = omega (ints, sub-ud u v, sub-ud e c, sub-ud (u -ℤ v) (e -ℤ c), add-ud u c, add-ud v e, sub-ud (u +ℤ c) (v +ℤ e)) in
+    rw apart at (across (u -ℤ v) (e -ℤ c) b)
 
 module _ (n : ℕ) (a : List Time) (x : ℕ → ℤ) where
   -- what a column holding a time adds up to
@@ -67,12 +77,7 @@ module _ (n : ℕ) (a : List Time) (x : ℕ → ℤ) where
   -- a bound on two rows' sums, as a constraint on their columns
   pub keeps-sums : (i s l t : ℕ) (b : Bound)
       → Holds (x s -ℤ x t) (plus b (most (chosen n a l t -ℤ chosen n a i s))) ↔ Holds (sum n a x i s -ℤ sum n a x l t) b
-  keeps-sums i s l t b =
-      let ci = chosen n a i s in
-      let cl = chosen n a l t in
-      let apart : x s -ℤ x t -ℤ (cl -ℤ ci) ≡ (x s +ℤ ci) -ℤ (x t +ℤ cl)
-      = omega (ints, sub-ud (x s) (x t), sub-ud cl ci, sub-ud (x s -ℤ x t) (cl -ℤ ci), add-ud (x s) ci, add-ud (x t) cl, sub-ud (x s +ℤ ci) (x t +ℤ cl)) in
-      rw apart at (across (x s -ℤ x t) (cl -ℤ ci) b)
+  keeps-sums i s l t b = holds-sums (x s) (x t) (chosen n a i s) (chosen n a l t) b
 
 -- the constraints of a row are on x(0) to x(n)
 pub row-fits : (n : ℕ) (a : List Time) (d : Matrix) {cols : List ℕ} {i s : ℕ} → Cols n a cols i → Chosen n a i s → Row (Fits (suc n)) n a d cols i s
@@ -94,6 +99,10 @@ module _ (n : ℕ) (a : List Time) (sel : List ℕ) (q : Selection n a n 1 sel) 
   pub column-at : (r : ℕ) → r < n → Column n a (suc r) (col sel (suc r))
   column-at r h = chosen-column (cols (suc r) (omega arith))
 
+-- the constraints that in rows 1 to r the selected columns attain the largest sums have P
+abbrev pub Behind : ℕ → List Time → List ℕ → (Constraint → Type 0) → ℕ → Type 0
+Behind n a sel P r = (i : ℕ) → i < r → (j : ℕ) → j < n → P (behind n a (suc i) (col sel (suc i)) (1 + j))
+
 module _ (n : ℕ) (a : List Time) (sel : List ℕ) (x : ℕ → ℤ) where
   -- in each row the selected column attains the largest sum
   abbrev pub AllAttain : Type 0
@@ -107,57 +116,102 @@ module _ (n : ℕ) (a : List Time) (sel : List ℕ) (x : ℕ → ℤ) where
   value-image q at zero h = clock-imaged n a x
   value-image q at (suc r) h = sym (image-attained n a x (column-at n a sel q r (omega arith)) (at r (omega arith)))
 
-module _ (n : ℕ) (a : List Time) (d : Matrix) (sel : List ℕ) (q : Selection n a n 1 sel) where
-  -- all constraints, and those of each row
-  module _ (P : Constraint → Type 0) where
-    row-at : Every P (rowsConstraints n a d (0 ∷ []) 1 sel) → (r : ℕ) → r < n → Row P n a d (0 ∷ sel) (suc r) (col sel (suc r))
-    row-at e r h =
-        let z : 1 + r ≡ suc r = omega arith in
-        rw z at (rows-of P n a d (0 ∷ []) 1 sel refl e r (rw (selection-length n a q) h))
+module _ (n : ℕ) (a : List Time) (d : Matrix) (sel : List ℕ) where
+  abbrev c : ℕ → ℕ
+  c = col sel
 
-    pub at-rows : ((r : ℕ) → r < n → Row P n a d (0 ∷ sel) (suc r) (col sel (suc r))) → Every P (rowsConstraints n a d (0 ∷ []) 1 sel)
-    at-rows rs = of-rows P n a d (0 ∷ []) 1 sel refl (λ r h.
-        let z : 1 + r ≡ suc r = omega arith in
-        rw z (rs r (rw (selection-length n a q) at h)))
+  -- the constraints of row i
+  abbrev pub rowOf : ℕ → List Constraint
+  rowOf i = rowConstraints n a d (0 ∷ sel) i (c i)
+
+  -- those of rows 1 to r
+  abbrev pub front : ℕ → List Constraint
+  front r = flatten (tabulate r 1 rowOf)
+
+  pub front-more : (r : ℕ) → front (suc r) ≡ front r ++ rowOf (suc r)
+  front-more r =
+      let z : 1 + r ≡ suc r = omega arith in
+      ap flatten (sym (rw z at (tabulate-snoc r 1 rowOf))) ∙ flatten-snoc (tabulate r 1 rowOf) (rowOf (suc r))
+
+  -- of all rows
+  pub selection-front : Selection n a n 1 sel → rowsConstraints n a d (0 ∷ []) 1 sel ≡ front n
+  selection-front q = rw (selection-length n a q) at (by-rows n a d (0 ∷ []) 1 sel refl)
+
+  pub preimage-front : Selection n a n 1 sel → preimage n a d sel ≡ tighten (suc n) (front n)
+  unfolding preimage
+  preimage-front q = ap (tighten (suc n)) (selection-front q)
+
+  module _ (P : Constraint → Type 0) (r : ℕ) where
+    front-rows : Every P (front r) → (i : ℕ) → i < r → Row P n a d (0 ∷ sel) (suc i) (c (suc i))
+    front-rows e i h =
+        let z : 1 + i ≡ suc i = omega arith in
+        row-of P n a d (0 ∷ sel) (suc i) (c (suc i)) (rw z at (at-tabulate r 1 rowOf (in-flatten _ e) i h))
+
+    rows-front : ((i : ℕ) → i < r → Row P n a d (0 ∷ sel) (suc i) (c (suc i))) → Every P (front r)
+    rows-front rows = every-flatten (every-tabulate r 1 rowOf (λ i h.
+        let z : 1 + i ≡ suc i = omega arith in
+        rw z (of-row P n a d (0 ∷ sel) (suc i) (c (suc i)) (rows i h))))
+
+  -- what they say of x, also where a map h is done on their limits: the columns attain the largest sums, and the images keep to the zone
+  module _ (h : Bound → Bound) (same : (c : ℤ) → h (most c) ≡ most c) (sums : (b c : Bound) → h (plus b c) ≡ plus (h b) (h c)) (x : ℕ → ℤ) where
+    abbrev To : Constraint → Type 0
+    To k = Keeps x (through h k)
+
+    abbrev v : ℕ → ℤ
+    v = value n a sel x
+
+    apart : (i l : ℕ) → To (keeps n a d i (c i) l (c l)) ↔ Holds (v i -ℤ v l) (h (entry (suc n) d i l))
+    unfolding keeps
+    apart i l = rw (sums (entry (suc n) d i l) _, same _) (keeps-sums n a x i (c i) l (c l) (h (entry (suc n) d i l)))
+
+    pub front-says : Closed (suc n) d → (r : ℕ) → r ≤ n → Every To (front r)
+        ↔ (Behind n a sel To r × ((i l : ℕ) → i < suc r → l < suc r → Holds (v i -ℤ v l) (h (entry (suc n) d i l))))
+    front-says cl r few = (
+      λ e. let rows = front-rows To r e in (λ i k. rows i k .attained, λ i l hi hl. between rows i l hi hl (decLt l i) (decLt i l)),
+      λ e. rows-front To r (λ i k. record {
+        attained = e .0 i k;
+        ahead = λ l g. apart (suc i) l .1 (e .1 (suc i) l (omega arith) (omega arith));
+        back = λ l g. apart l (suc i) .1 (e .1 l (suc i) (omega arith) (omega arith));
+      }),
+    )
+      where
+        between : ((i : ℕ) → i < r → Row To n a d (0 ∷ sel) (suc i) (c (suc i))) → (i l : ℕ) → i < suc r → l < suc r
+            → Dec (l < i) → Dec (i < l) → Holds (v i -ℤ v l) (h (entry (suc n) d i l))
+        between rows zero l hi hl (yes p) e = absurd (omega arith)
+        between rows (suc i) l hi hl (yes p) e = apart (suc i) l .0 (rows i (omega arith) .ahead l p)
+        between rows i zero hi hl (no p) (yes e) = absurd (omega arith)
+        between rows i (suc l) hi hl (no p) (yes e) = apart i (suc l) .0 (rows l (omega arith) .back i e)
+        between rows i l hi hl (no p) (no e) =
+            let equal : i ≡ l = omega arith in
+            rw (equal, cl .diag l (omega arith), same (pos 0)) (holds-none (v l))
+
+module _ (n : ℕ) (a : List Time) (d : Matrix) (sel : List ℕ) (q : Selection n a n 1 sel) where
+  pub rows-fit : (i : ℕ) → i < n → Row (Fits (suc n)) n a d (0 ∷ sel) (suc i) (col sel (suc i))
+  rows-fit i h = row-fits n a d (λ l k. cols n a sel q l (omega arith)) (cols n a sel q (suc i) (omega arith))
+
+  pub front-fits : (r : ℕ) → r ≤ n → Every (Fits (suc n)) (front n a d sel r)
+  front-fits r few = rows-front n a d sel (Fits (suc n)) r (λ i h. rows-fit i (omega arith))
 
   pub selection-fits : Every (Fits (suc n)) (rowsConstraints n a d (0 ∷ []) 1 sel)
-  selection-fits = at-rows (Fits (suc n)) (λ r h. row-fits n a d (λ l k. cols n a sel q l (omega arith)) (cols n a sel q (suc r) (omega arith)))
+  selection-fits = rw (selection-front n a d sel q) (front-fits n (omega arith))
 
   pub preimage-closed : ClosedZone (suc n) (preimage n a d sel)
   unfolding preimage
   preimage-closed = tighten-closed (suc n) selection-fits
 
-  module _ (x : ℕ → ℤ) where
-    abbrev v : ℕ → ℤ
-    v = value n a sel x
-
-    apart : (i l : ℕ) → Keeps x (keeps n a d i (col sel i) l (col sel l)) ↔ Holds (v i -ℤ v l) (entry (suc n) d i l)
-    unfolding keeps
-    apart i l = keeps-sums n a x i (col sel i) l (col sel l) (entry (suc n) d i l)
-
-    -- what the constraints say
-    pub preimage-in : Closed (suc n) d → In (suc n) (preimage n a d sel) x ↔ (AllAttain n a sel x × Member (suc n) d (image n a x))
-    unfolding preimage
-    preimage-in cl = (
-      λ h. let rows = row-at (Keeps x) (tighten-in (suc n) selection-fits x .0 h) in
-          let at : AllAttain n a sel x = λ r k. attains-behind n a x (column-at n a sel q r k) .0 (rows r k .attained) in
-          (at, λ i l hi hl. rw (← is at i hi, ← is at l hl) (between rows i l hi hl (decLt l i) (decLt i l))),
-      λ h. tighten-in (suc n) selection-fits x .1 (at-rows (Keeps x) (λ r k. record {
-        attained = attains-behind n a x (column-at n a sel q r k) .1 (h .0 r k);
-        ahead = λ l g. apart (suc r) l .1 (rw (is (h .0) (suc r) (omega arith), is (h .0) l (omega arith)) (h .1 (suc r) l (omega arith) (omega arith)));
-        back = λ l g. apart l (suc r) .1 (rw (is (h .0) (suc r) (omega arith), is (h .0) l (omega arith)) (h .1 l (suc r) (omega arith) (omega arith)));
-      })),
-    )
-      where
-        is : AllAttain n a sel x → (i : ℕ) → i < suc n → v i ≡ image n a x i
-        is = value-image n a sel x q
-
-        between : ((r : ℕ) → r < n → Row (Keeps x) n a d (0 ∷ sel) (suc r) (col sel (suc r))) → (i l : ℕ) → i < suc n → l < suc n
-            → Dec (l < i) → Dec (i < l) → Holds (v i -ℤ v l) (entry (suc n) d i l)
-        between rows zero l hi hl (yes p) e = absurd (omega arith)
-        between rows (suc r) l hi hl (yes p) e = apart (suc r) l .0 (rows r (omega arith) .ahead l p)
-        between rows i zero hi hl (no p) (yes e) = absurd (omega arith)
-        between rows i (suc r) hi hl (no p) (yes e) = apart i (suc r) .0 (rows r (omega arith) .back i e)
-        between rows i l hi hl (no p) (no e) =
-            let same : i ≡ l = omega arith in
-            rw (same, cl .diag l hl) (holds-none (v l))
+  -- what the constraints say
+  pub preimage-in : (x : ℕ → ℤ) → Closed (suc n) d → In (suc n) (preimage n a d sel) x ↔ (AllAttain n a sel x × Member (suc n) d (image n a x))
+  preimage-in x cl =
+      let zone = tighten-in (suc n) (front-fits n (omega arith)) x in
+      let say = front-says n a d sel (λ b. b) (λ c. refl) (λ b c. refl) x cl n (omega arith) in
+      let is = value-image n a sel x q in
+      rw (preimage-front n a d sel q) (
+        λ h.
+            let (b, u) = say .0 (zone .0 h) in
+            let at : AllAttain n a sel x = λ r k. attains-behind n a x (column-at n a sel q r k) .0 (b r k) in
+            (at, λ i l hi hl. rw (← is at i hi, ← is at l hl) (u i l hi hl)),
+        λ h. zone .1 (say .1 (
+          λ r k. attains-behind n a x (column-at n a sel q r k) .1 (h .0 r k),
+          λ i l hi hl. rw (is (h .0) i hi, is (h .0) l hl) (h .1 i l hi hl),
+        )),
+      )

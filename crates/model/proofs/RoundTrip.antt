@@ -6,29 +6,30 @@ use mathlib.Core.Path.{_≡_, refl, ap₂, _∙_}
 use mathlib.Core.List.{List, [], _∷_, _++_, map, flatMap, map-append, append-assoc, append-nil}
 use mathlib.Core.Bool.{Bool, true, false, cond}
 use mathlib.Core.Option.{none}
-use lib.Dec.{eqb}
+use lib.Dec.{ltb, eqb}
+use lib.Pow.{pow-pos}
 use lib.ListN.{length, take, drop, replicate, length-append, length-map, length-drop}
 use lib.Seq.{take-at, take-add, length-take-le}
-use borrow.Author.Tests.{ne-eqb}
-use Rattle.model.specs.Sizes.{timeLimit, tableSize, patternSize, departuresWidth, horizonWidth, timeWidth}
+use borrow.Author.Tests.{ltb-false, ne-eqb}
+use Rattle.model.specs.Sizes.{timeLimit, tableSize, patternSize, horizonWidth}
 use Rattle.model.specs.declared.Slot.{Slot}
 use Rattle.model.specs.declared.Limit.{Limit}
 use Rattle.model.specs.declared.Case.{Case}
+use Rattle.model.specs.declared.Form.{Form}
 use Rattle.model.specs.declared.Fault.the-variants as fault
-use Rattle.model.specs.Lists.{padded}
+use Rattle.model.specs.Lists.{padded, Every}
 use Rattle.model.specs.Network.{regular}
-use Rattle.model.specs.Faults.{timeOf, outside, tableFault, patternsFault, formFault}
-use Rattle.model.specs.Packed.{got, rows, caseOf, body, parse}
-use Rattle.model.specs.Writing.{fieldBits, Kind, timeKind, boundKind, entriesBits, allBounds, caseBits, tidy, tidied, Whole}
-use Rattle.model.proofs.Limits.{RowsInLimit, no-row, row, no-fault}
+use Rattle.model.specs.Faults.{timeOf, outside, patternsFault, formFault}
+use Rattle.model.specs.Packed.{got, Kind, timeKind, boundKind, entries, rows, caseOf, body, parseAs}
+use Rattle.model.specs.Writing.{fieldBits, entriesBits, allBounds, tableBits, caseBits, tidy, tidied, Whole}
+use Rattle.model.specs.Conditions.{FormLimits, InLimit, BoundIn}
+use Rattle.model.proofs.Listed.{every-map}
+use Rattle.model.proofs.Limits.{over-none, boundFaultIn-none, RowsInLimit, no-row, row, no-fault}
 use Rattle.model.proofs.Parsed.{Gives, value, no-value, test-gives, then-gives}
 use Rattle.model.proofs.Spelled.{Spells, end, ends, join, split, bits-of, bits-spell}
-use Rattle.model.proofs.Inverse.{Lawful, bits-append, entries-split, slot-lawful, slots-of, slots-spell, bounds-of, bounds-spell}
+use Rattle.model.proofs.Inverse.{bits-append, entries-split, first-of, first-spell}
+use Rattle.model.proofs.Complement.{time-lawful, bound-lawful}
 use Rattle.model.proofs.Bytes.{missing, filled, fill-of, fill-spells}
-
--- times are in what their width holds
-time-lawful : Lawful timeKind
-time-lawful = slot-lawful (timeWidth - 1) timeLimit fault.Time (omega arith)
 
 -- what is said of an absent entry whatever its value is said of entries without the values that are ignored
 module _ {A Y : Type 0} (k : Kind A) (g : A → Y) (absent : (e : A) → k .has e ≡ false → g (k .absent) ≡ g e) where
@@ -49,6 +50,11 @@ module _ {A Y : Type 0} (k : Kind A) (g : A → Y) (absent : (e : A) → k .has 
 
 -- ---- rows
 module _ (s : List ℕ) (n : ℕ) where
+  -- times in their limit are read where they are written
+  times-of : {p q : ℕ} (count : ℕ) (es : List Slot) → count ≤ length es → Every (InLimit timeLimit) (take count es)
+      → Spells s p (entriesBits timeKind (take count es)) q → entries timeKind s count p [] ≡ got (map (tidy timeKind) (take count es)) q
+  times-of count es long h = first-of timeKind time-lawful s count es long (every-map (λ e l p. over-none timeLimit fault.Time p e .1 l) h)
+
   -- rows in their limits are read where they are written
   rows-of : {r p q : ℕ} {es : List Slot} (before : List Slot) → RowsInLimit n r es → r * n ≤ length es → Spells s p (entriesBits timeKind (take (r * n) es)) q
       → rows s n r p before ≡ got (before ++ map (tidy timeKind) (take (r * n) es)) q
@@ -62,7 +68,7 @@ module _ (s : List ℕ) (n : ℕ) where
       let e : suc r * n ≡ n + r * n = omega arith in
       let whole : take (suc r * n) es ≡ now ++ later = rw e (take-add n (r * n) es) in
       let (m, x, y) = entries-split timeKind now later (rw whole at t) in
-      let first = slots-of timeWidth timeLimit fault.Time time-lawful s n es (omega arith) inside x in
+      let first = times-of n es (omega arith) inside x in
       let others = rows-of (before ++ map (tidy timeKind) now) rest (omega (arith, length-drop n es)) y in
       rw (first, tidied-same timeKind timeOf (λ e h. rw h) now, reg, others, whole, map-append, append-assoc)
 
@@ -72,65 +78,84 @@ module _ (s : List ℕ) (n : ℕ) where
   unfolding rows
   rows-spell m zero first p before h e = value {a = before} (h, omega arith)
   rows-spell m (suc k) first p before h e =
-      then-gives (slots-spell timeWidth timeLimit fault.Time time-lawful s n p (omega (arith, ends h))) (λ es q r.
+      then-gives (first-spell timeKind time-lawful s n p (omega (arith, ends h))) (λ es q r.
       test-gives (regular (map timeOf es))
       (λ t. rows-spell m k first q (before ++ es) (rw (bits-append timeKind before es) (join h (r .0))) (omega (arith, r .1, length-append before es)))
       (λ t. no-value))
 
--- ---- the case
--- the bits of a case that is made of lists of the right length
-made : (n m : ℕ) (times : List Slot) (start target : List Limit) → length times ≡ tableSize n → length start ≡ patternSize n → length target ≡ patternSize n
-    → caseBits (caseOf n (m + 1) times start target)
-    ≡ fieldBits departuresWidth n ++ fieldBits horizonWidth m ++ entriesBits timeKind times ++ (entriesBits boundKind start ++ entriesBits boundKind target)
-unfolding caseBits
-made n m times start target t u v =
-    let e : m + 1 - 1 ≡ m = omega arith in
-    rw (e, take-at times _ (tableSize n) t, take-at start _ (patternSize n) u, take-at target _ (patternSize n) v, bits-append boundKind start target)
+-- ---- the case in a form
+module _ (f : Form) where
+  -- the bits of a case that is made of lists of the right length
+  made : (n m : ℕ) (times : List Slot) (start target : List Limit)
+      → length times ≡ tableSize n → length start ≡ patternSize n → length target ≡ patternSize n
+      → caseBits f (caseOf n (m + 1) times start target)
+      ≡ fieldBits (f .lead) 0 ++ fieldBits (f .digits) n ++ fieldBits horizonWidth m ++ entriesBits timeKind times
+      ++ (entriesBits (boundKind f) start ++ entriesBits (boundKind f) target)
+  unfolding caseBits
+  made n m times start target t u v =
+      let e : m + 1 - 1 ≡ m = omega arith in
+      rw (e, take-at times _ (tableSize n) t, take-at start _ (patternSize n) u, take-at target _ (patternSize n) v, bits-append (boundKind f) start target)
 
-module _ (s : List ℕ) where
+module _ {f : Form} (lim : FormLimits f) (s : List ℕ) where
+  -- the bounds of a pattern that the form has a place for are read where they are written
+  bounds-of : {p q : ℕ} (count : ℕ) (es : List Limit) → count ≤ length es → Every (BoundIn f) (take count es)
+      → Spells s p (entriesBits (boundKind f) (take count es)) q → entries (boundKind f) s count p [] ≡ got (map (tidy (boundKind f)) (take count es)) q
+  bounds-of count es long h = first-of (boundKind f) (bound-lawful lim) s count es long (every-map (λ e b p. boundFaultIn-none f p e .1 b) h)
+
   -- the bits of a case are read as the case without what is ignored
-  pub parse-of : (c : Case) → formFault c ≡ none → Whole c → Spells s 0 (filled (caseBits c)) (8 * length s) → parse s ≡ got (tidied c) (8 * length s)
-  unfolding formFault tableFault patternsFault outside parse body caseBits tidied
+  pub parse-of : (c : Case) → formFault f c ≡ none → Whole c → Spells s 0 (filled (caseBits f c)) (8 * length s) → parseAs f s ≡ got (tidied c) (8 * length s)
+  unfolding formFault patternsFault outside parseAs body caseBits tidied
   parse-of c h whole r =
       let facts = simp no-fault at h in
       let n = c .n in
       let size = patternSize n in
-      let D = fieldBits departuresWidth n in
+      let Z = fieldBits (f .lead) 0 in
+      let D = fieldBits (f .digits) n in
       let N = fieldBits horizonWidth (c .horizon .0 - 1) in
-      let T = entriesBits timeKind (take (tableSize n) (c .times)) in
-      let (f, in-front, zeros) = split (caseBits c) (replicate (missing (length (caseBits c))) 0) r in
-      let (_, table, patterns) = split (D ++ N ++ T) (entriesBits boundKind (allBounds c)) in-front in
-      let (_, head, times) = split (D ++ N) T table in
-      let (d, departures, horizon) = split D N head in
-      let (_, start, target) = entries-split boundKind (take size (c .start)) (take size (c .target)) patterns in
+      let T = tableBits c in
+      let (e, in-front, zeros) = split (caseBits f c) (replicate (missing (length (caseBits f c))) 0) r in
+      let (_, table, patterns) = split (Z ++ D ++ N ++ T) (entriesBits (boundKind f) (allBounds c)) in-front in
+      let (_, head, times) = split (Z ++ D ++ N) T table in
+      let (d, numbers, horizon) = split (Z ++ D) N head in
+      let (z, lead, departures) = split Z D numbers in
+      let (_, start, target) = entries-split (boundKind f) (take size (c .start)) (take size (c .target)) patterns in
       let one-less : c .horizon .0 - 1 + 1 ≡ c .horizon .0 = omega arith in
       rw (
-        bits-of s departuresWidth 0 n (omega arith) departures,
+        bits-of s (f .lead) 0 0 (pow-pos (f .lead)) lead,
+        bits-of s (f .digits) z n (omega arith) departures,
         ne-eqb n 0 (λ z. omega arith),
         bits-of s horizonWidth d (c .horizon .0 - 1) (omega arith) horizon,
         one-less,
-        rows-of s n [] (facts .0 .1 .1) (whole .times) times,
-        bounds-of s n (c .start) (whole .start) (facts .1 .0) start,
-        bounds-of s n (c .target) (whole .target) (facts .1 .1) target,
-        fill-of s f in-front zeros,
+        rows-of s n [] (facts .1 .1 .0 .1) (whole .times) times,
+        bounds-of size (c .start) (whole .start) (facts .1 .1 .1 .0) start,
+        bounds-of size (c .target) (whole .target) (facts .1 .1 .1 .1) target,
+        fill-of s e in-front zeros,
       )
 
+  -- bounds that are read are written there
+  bounds-spell : (n p : ℕ) → p ≤ 8 * length s
+      → Gives (λ es q. Spells s p (entriesBits (boundKind f) es) q × (length es ≡ patternSize n)) (entries (boundKind f) s (patternSize n) p [])
+  bounds-spell n = first-spell (boundKind f) (bound-lawful lim) s (patternSize n)
+
   -- what is read behind the two numbers is written behind them
-  body-spells : (n m p : ℕ) → Spells s 0 (fieldBits departuresWidth n ++ fieldBits horizonWidth m) p
-      → Gives (λ c q. Spells s 0 (filled (caseBits c)) (8 * length s)) (body s n (m + 1) p)
+  body-spells : (n m p : ℕ) → Spells s 0 (fieldBits (f .lead) 0 ++ fieldBits (f .digits) n ++ fieldBits horizonWidth m) p
+      → Gives (λ c q. Spells s 0 (filled (caseBits f c)) (8 * length s)) (body f s n (m + 1) p)
   unfolding body entriesBits flatMap
   body-spells n m p head =
       then-gives (rows-spell s n (tableSize n) n p p [] (end p (omega (arith, ends head))) (omega arith)) (λ times a t.
-      then-gives (bounds-spell s n a (omega (arith, ends (t .0)))) (λ start b u.
-      then-gives (bounds-spell s n b (omega (arith, ends (u .0)))) (λ target c v.
+      then-gives (bounds-spell n a (omega (arith, ends (t .0)))) (λ start b u.
+      then-gives (bounds-spell n b (omega (arith, ends (u .0)))) (λ target c v.
       then-gives (fill-spells s c (join (join head (t .0)) (join (u .0) (v .0)))) (λ z d r.
-      value {q = d} (rw (made n m times start target (t .1) (u .1) (v .1)) r)))))
+      value {q = d} (rw (made f n m times start target (t .1) (u .1) (v .1)) r)))))
 
   -- the bits that a case is read from are its bits, and the fill
-  pub parse-spells : Gives (λ c q. Spells s 0 (filled (caseBits c)) (8 * length s)) (parse s)
-  unfolding parse
+  pub parse-spells : Gives (λ c q. Spells s 0 (filled (caseBits f c)) (8 * length s)) (parseAs f s)
+  unfolding parseAs
   parse-spells =
-      then-gives (bits-spell s departuresWidth 0 0) (λ n a x.
+      then-gives (bits-spell s (f .lead) 0 0) (λ z a x.
+      test-gives (ltb 0 z) (λ t. no-value) (λ t.
+      let zero : z ≡ 0 = omega (arith, ltb-false) in
+      then-gives (bits-spell s (f .digits) a a) (λ n b y.
       test-gives (eqb n 0) (λ t. no-value) (λ t.
-      then-gives (bits-spell s horizonWidth a a) (λ m b y.
-      body-spells n m b (join (x .0) (y .0)))))
+      then-gives (bits-spell s horizonWidth b b) (λ m c w.
+      body-spells n m c (join (join (rw zero at (x .0)) (y .0)) (w .0)))))))

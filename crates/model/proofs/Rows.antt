@@ -1,15 +1,17 @@
 -- What the constraints of a selection say, row by row.
-use Prim.Native.Nat.{ℕ, zero, suc, _+_, _≤_, _<_}
+use Prim.Native.Nat.{ℕ, suc, _+_, _<_}
 use native.Mathlib.Omega.{arith}
 use native.Mathlib.Nat.{zero-add}
-use mathlib.Core.Path.{_≡_, sym}
-use mathlib.Core.List.{List, [], _∷_, _++_, append-assoc, flatten}
+use mathlib.Core.Path.{_≡_, refl, sym, ap, ap₂, _∙_}
+use mathlib.Core.List.{List, [], _∷_, _++_, append-nil, append-assoc, flatten}
 use lib.ListN.{length, getD, length-append, List·getD-append}
+use lib.Seq.{getD-at}
 use Rattle.model.specs.Lists.{tabulate, Every, done, both}
 use Rattle.model.specs.Matrix.{Matrix, Constraint}
 use Rattle.model.specs.Network.{Time, time}
 use Rattle.model.specs.Search.{chosen, slack, attains, keeps, rowConstraints, rowsConstraints}
 use Rattle.model.proofs.Listed.{every-append, every-split, every-tabulate, at-tabulate, every-flatten, in-flatten}
+use Rattle.model.proofs.Tabulated.{tabulate-ext}
 
 -- column j of row i, against the column s
 abbrev pub behind : ℕ → List Time → ℕ → ℕ → ℕ → Constraint
@@ -46,41 +48,24 @@ module _ (P : Constraint → Type 0) (n : ℕ) (a : List Time) (d : Matrix) wher
       every-append (every-tabulate n 1 (behind n a i s) (r .attained))
       (every-flatten (every-tabulate i 0 (pairs cols i s) (λ l h. rw (zero-add l) (both (r .ahead l h) (both (r .back l h) done)))))
 
-  -- of cols a row looks at the first ones alone
-  row-with : (cols cols′ : List ℕ) (i s : ℕ) → ((l : ℕ) → l < i → getD cols l 0 ≡ getD cols′ l 0) → Row P n a d cols i s → Row P n a d cols′ i s
-  row-with cols cols′ i s same r = record {
-    attained = r .attained;
-    ahead = λ l h. rw (same l h) at (r .ahead l h);
-    back = λ l h. rw (same l h) at (r .back l h);
-  }
+-- of cols a row looks at the first ones alone
+row-first : (n : ℕ) (a : List Time) (d : Matrix) (cols more : List ℕ) (i s : ℕ) → length cols ≡ i
+    → rowConstraints n a d cols i s ≡ rowConstraints n a d (cols ++ more) i s
+unfolding rowConstraints
+row-first n a d cols more i s e =
+    ap (λ kss. attains n a i s ++ flatten kss) (tabulate-ext i 0 _ _ (λ l u k. rw (List·getD-append cols more 0 l (omega arith))))
 
-  first : (cols more : List ℕ) (i : ℕ) → i ≤ length cols → (l : ℕ) → l < i → getD (cols ++ more) l 0 ≡ getD cols l 0
-  first cols more i h l k = List·getD-append cols more 0 l (omega arith)
+-- the constraints of all rows from row i on, row by row: cols holds the columns before, rest theirs
+pub by-rows : (n : ℕ) (a : List Time) (d : Matrix) (cols : List ℕ) (i : ℕ) (rest : List ℕ) → length cols ≡ i
+    → let all = cols ++ rest in rowsConstraints n a d cols i rest ≡ flatten (tabulate (length rest) i (λ l. rowConstraints n a d all l (getD all l 0)))
+unfolding rowsConstraints tabulate flatten
+by-rows n a d cols i [] e = refl
+by-rows n a d cols i (s ∷ rest) e =
+    rw (getD-at cols s rest 0 i e) (ap₂ _++_ (row-first n a d cols (s ∷ rest) i s e)
+    (rw (append-assoc cols (s ∷ []) rest) at (by-rows n a d (cols ++ (s ∷ [])) (suc i) rest (omega (arith, length-append cols (s ∷ []))))))
 
-  -- all rows from row i on: cols holds the columns before, rest theirs
-  abbrev pub Rows : List ℕ → ℕ → List ℕ → Type 0
-  Rows cols i rest = (r : ℕ) → r < length rest → Row P n a d (cols ++ rest) (i + r) (getD rest r 0)
-
-  pub rows-of : (cols : List ℕ) (i : ℕ) (rest : List ℕ) → length cols ≡ i → Every P (rowsConstraints n a d cols i rest) → Rows cols i rest
-  unfolding rowsConstraints
-  rows-of cols i [] e p r h = absurd (omega arith)
-  rows-of cols i (s ∷ rest) e p zero h =
-      let (q, qs) = every-split (rowConstraints n a d cols i s) _ p in
-      let z : i + 0 ≡ i = omega arith in
-      rw z (row-with cols _ i s (λ l k. sym (first cols (s ∷ rest) i (omega arith) l k)) (row-of cols i s q))
-  rows-of cols i (s ∷ rest) e p (suc r) h =
-      let (q, qs) = every-split (rowConstraints n a d cols i s) _ p in
-      let z : i + suc r ≡ suc i + r = omega arith in
-      rw (z, ← append-assoc cols (s ∷ []) rest)
-      (rows-of (cols ++ (s ∷ [])) (suc i) rest (omega (arith, length-append cols (s ∷ []))) qs r (omega arith))
-
-  pub of-rows : (cols : List ℕ) (i : ℕ) (rest : List ℕ) → length cols ≡ i → Rows cols i rest → Every P (rowsConstraints n a d cols i rest)
-  unfolding rowsConstraints
-  of-rows cols i [] e rs = done
-  of-rows cols i (s ∷ rest) e rs =
-      let z : i + 0 ≡ i = omega arith in
-      let zs : (r : ℕ) → i + suc r ≡ suc i + r = λ r. omega arith in
-      every-append
-      (of-row cols i s (row-with _ cols i s (first cols (s ∷ rest) i (omega arith)) (rw z at (rs 0 (omega arith)))))
-      (of-rows (cols ++ (s ∷ [])) (suc i) rest (omega (arith, length-append cols (s ∷ [])))
-      (λ r h. rw (append-assoc cols (s ∷ []) rest, ← zs r) (rs (suc r) (omega arith))))
+-- one list more
+pub flatten-snoc : {X : Type 0} (xss : List (List X)) (xs : List X) → flatten (xss ++ (xs ∷ [])) ≡ flatten xss ++ xs
+unfolding flatten
+flatten-snoc [] xs = append-nil xs
+flatten-snoc (ys ∷ xss) xs = ap (_++_ ys) (flatten-snoc xss xs) ∙ sym (append-assoc ys (flatten xss) xs)

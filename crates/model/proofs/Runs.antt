@@ -5,10 +5,10 @@ use native.Mathlib.Nat.{add-mul, mul-le-mul, mul-le-mul-right}
 use mathlib.Core.Path.{_≡_, ap}
 use mathlib.Core.List.{List, map}
 use mathlib.Core.Option.{none, some}
-use lib.IntN.{ℤ, pos, natAbs, _-ℤ_, _*ℤ_}
+use lib.IntN.{pos, natAbs, _-ℤ_, _*ℤ_}
 use lib.ListN.{take}
 use Rattle.ints.proofs.Integers.{up, dn, ints, sub-ud, pos-ud, abs-ud}
-use Rattle.model.specs.Sizes.{mostDepartures, mostCycles, zoneLimit, startLimit}
+use Rattle.model.specs.Sizes.{mostDepartures, mostCycles, startLimit}
 use Rattle.ints.specs.declared.Seconds.{Seconds}
 use Rattle.model.specs.declared.Case.{Case}
 use Rattle.model.specs.declared.Judged.the-variants as judged
@@ -18,18 +18,19 @@ use Rattle.model.specs.Bound.{Bound, bit, scale, whole}
 use Rattle.model.specs.Matrix.{Matrix}
 use Rattle.model.specs.Pattern.{patternConstraints}
 use Rattle.model.specs.Network.{Network, inParts, cycles}
-use Rattle.model.specs.Search.{lists, common, firstCommon, partsOf, boundsOf, wholes, startIn, Outcome}
+use Rattle.model.specs.Search.{lists, common, firstCommon, partsOf, wholes, startIn, Outcome}
 use Rattle.model.specs.Faults.{network, runFault}
 use Rattle.model.specs.Answers.{seconds, cycleNumber, allTimes, answered, answer, ran, run, runInParts}
 use Rattle.model.specs.Demands.{InLimits}
-use Rattle.model.specs.Conditions.{Small, free, sized, Made, Bounded, Limits}
+use Rattle.model.specs.Conditions.{Small, free, sized, Bounded, Limits}
 use Rattle.model.proofs.Listed.{every-map, map-every, some-at, every-some}
 use Rattle.model.proofs.Bounds.{bit-le}
 use Rattle.model.proofs.Scale.{mul-ud}
 use Rattle.model.proofs.Unique.{scaled}
 use Rattle.model.proofs.Start.{pick-small}
 use Rattle.model.proofs.Wholes.{Enough, W, bounds-fit, bounds-small, read-entry, entry-parts, start-is, start-length}
-use Rattle.model.proofs.Sizes.{made-small, made-lists, zone-limit}
+use Rattle.model.proofs.Spread.{Made, made, made-small}
+use Rattle.model.proofs.Sizes.{mostSize, made-lists, most-zone}
 use Rattle.model.proofs.Former.{whole-network}
 use Rattle.model.proofs.Searched.{first-some, parts-few, first-common, parts-enough}
 use Rattle.model.proofs.Fitted.{fitting-left, made-meetable}
@@ -54,31 +55,28 @@ small-whole (sized {s} {z} h) =
 module _ (n parts : ℕ) (z : Matrix) (enough : Enough (suc n) parts z) {S : ℕ} (small : Bounded (suc n) S z) where
   pub whole-made : Made n (S * parts + 1) (W n parts z enough .zone)
   unfolding wholes
-  whole-made = record {
-    by = boundsOf (suc n) (map whole (scaled parts z));
-    fits = bounds-fit (suc n) (map whole (scaled parts z));
-    small = bounds-small (suc n) (map whole (scaled parts z)) (λ i j hi hj.
-        rw (read-entry (suc n) (scaled parts z) i j, entry-parts (suc n) parts z i j) (small-whole (small-scale parts (small i j hi hj))));
-    is = W n parts z enough .is;
-  }
+  whole-made = made (bounds-fit (suc n) (map whole (scaled parts z)))
+      (bounds-small (suc n) (map whole (scaled parts z)) (λ i j hi hj.
+      rw (read-entry (suc n) (scaled parts z) i j, entry-parts (suc n) parts z i j) (small-whole (small-scale parts (small i j hi hj)))))
+      (W n parts z enough .is)
 
   times-small : Every (λ x. natAbs x ≤ n * (n * (S * parts + 1))) (startIn n parts z)
   times-small = rw (start-is n parts z enough) (pick-small n (W n parts z enough .zone) (made-small whole-made))
 
 -- it is in the limit of a run's start
-start-limit : (n parts : ℕ) → n ≤ mostDepartures → parts ≤ suc mostDepartures → n * (n * (zoneLimit * parts + 1)) ≤ startLimit
+start-limit : (n parts : ℕ) → n ≤ mostDepartures → parts ≤ suc mostDepartures → n * (n * (mostSize * parts + 1)) ≤ startLimit
 start-limit n parts few p =
-    let widest : zoneLimit * parts + 1 ≤ zoneLimit * suc mostDepartures + 1 = omega arith in
+    let widest : mostSize * parts + 1 ≤ mostSize * suc mostDepartures + 1 = omega arith in
     omega (arith, mul-le-mul few (mul-le-mul few widest))
 
 module _ (w : Network) (limits : Limits w) where
-  -- what a zone of list k has in common with the start does not pass the limit
-  common-bounded : (k : ℕ) → k ≤ mostCycles → {d : Matrix} → firstCommon (w .n) (w .start) (lists w k) ≡ some d → Bounded (suc (w .n)) zoneLimit d
+  -- what a zone of list k has in common with the start does not pass it
+  common-bounded : (k : ℕ) → k ≤ mostCycles → {d : Matrix} → firstCommon (w .n) (w .start) (lists w k) ≡ some d → Bounded (suc (w .n)) mostSize d
   unfolding common
   common-bounded k h e =
       let made = made-lists w (limits .table .times-small) (limits .target-small) k in
       let (z, (m, c), at) = some-at (every-some made (first-some (w .n) (w .start) (lists w k) e)) in
-      let room = zone-limit (w .n) k (limits .table .departures .few) h in
+      let room = most-zone (w .n) k (limits .table .departures .few) h in
       fitting-left (patternConstraints (w .n) (w .start)) (made-meetable (w .start) (limits .start-small) (omega arith) room m) c
 
   reached-small : {capacity : ℕ} {o : Outcome} → Concluded w capacity o → (k : ℕ) → answered o .verdict ≡ verdict.Reached (cycleNumber k)

@@ -3,15 +3,17 @@ use Prim.Native.Nat.{ℕ, zero, suc, _*_, _≤_, _<_}
 use mathlib.Core.Path.{_≡_}
 use mathlib.Core.List.{List, [], _∷_, map}
 use mathlib.Core.Option.{Option, some}
-use mathlib.Core.Bool.{Bool, false, not, _&&_}
+use mathlib.Core.Bool.{Bool, false, _&&_}
 use lib.IntN.{ℤ, pos, negℤ, natAbs, _+ℤ_}
 use lib.ListN.{length, getD}
 use Rattle.model.specs.declared.Slot.{Slot}
 use Rattle.model.specs.declared.Limit.{Limit}
-use Rattle.model.specs.Sizes.{mostDepartures, mostCycles, timeLimit, boundLimit}
+use Rattle.model.specs.declared.Form.{Form}
+use Rattle.model.specs.Sizes.{mostDepartures, mostCycles, timeLimit, boundLimit, wideLead, wideDigits, wideMark}
+use Rattle.model.specs.Forms.{markless}
 use Rattle.model.specs.Lists.{tabulate, Every}
 use Rattle.model.specs.Bound.{Bound, none, upto, most, LeB, plus, scale}
-use Rattle.model.specs.Matrix.{Matrix, entry, Member, everything, Constraint, constrain, tighten}
+use Rattle.model.specs.Matrix.{Matrix, entry, Member, everything, Constraint, constrain}
 use Rattle.model.specs.Pattern.{pairBound, patternConstraints}
 use Rattle.model.specs.Network.{Time, secs, scaleTime, Network, time, next}
 use Rattle.model.specs.Search.{chosen, rowsConstraints, tightest}
@@ -21,6 +23,13 @@ use Rattle.model.specs.Faults.{stated, beyond}
 pub record Departures (n : ℕ) : Type 0 where
   pub some : 1 ≤ n
   pub few : n ≤ mostDepartures
+
+-- ---- packed forms
+-- no field of the form is longer than the wide form's
+pub record FormLimits (f : Form) : Type 0 where
+  pub lead-few : f .lead ≤ wideLead
+  pub digits-few : f .digits ≤ wideDigits
+  pub mark-few : f .mark ≤ wideMark
 
 -- ---- columns
 -- column j of row i holds a time
@@ -80,9 +89,13 @@ pub record Limits (w : Network) : Type 0 where
 abbrev pub InLimit : ℕ → Slot → Type 0
 InLimit limit e = beyond limit e ≡ false
 
--- of a bound: also, it is not strict where there is no place for a mark
-abbrev pub BoundInLimit : Bool → Limit → Type 0
-BoundInLimit marks e = InLimit boundLimit (stated e) × ((not marks && (e .has && e .strict)) ≡ false)
+-- of a bound
+abbrev pub BoundInLimit : Limit → Type 0
+BoundInLimit e = InLimit boundLimit (stated e)
+
+-- for a form: also, it is not strict where the form has no place for its mark
+abbrev pub BoundIn : Form → Limit → Type 0
+BoundIn f e = BoundInLimit e × ((markless f && (e .has && e .strict)) ≡ false)
 
 -- each limit is at most B in size
 abbrev pub AllSmall : ℕ → List Constraint → Type 0
@@ -93,13 +106,6 @@ AllSmall B ks = Every (λ k. Small B (k .limit)) ks
 pub record Fits (m : ℕ) (k : Constraint) : Type 0 where
   pub row-fits : k .row < m
   pub col-fits : k .col < m
-
--- z is the tightest matrix of constraints of at most B
-pub record Made (n B : ℕ) (z : Matrix) : Type 0 where
-  pub by : List Constraint
-  pub fits : Every (Fits (suc n)) by
-  pub small : AllSmall B by
-  pub is : tighten (suc n) by ≡ some z
 
 pub record Closed (m : ℕ) (d : Matrix) : Type 0 where
   pub size : length d ≡ m * m

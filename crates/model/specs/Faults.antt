@@ -1,5 +1,5 @@
--- Document 01's faults, and 14 to 16 of requests [1], [2] and [6]: their numbers, what they return, and the first one of an unpacked case, of a call and of
--- a run.
+-- Document 01's faults, and 14 to 16 of requests [1], [2], [6] and [7]: their numbers, what they return, and the first one of an unpacked case, of a case
+-- for a packed form, of a call and of a run.
 use Prim.Native.Nat.{ℕ, zero, suc, _+_}
 use lib.IntN.{ℤ, pos, natAbs}
 use mathlib.Core.List.{List, [], _∷_, map}
@@ -11,9 +11,11 @@ use Rattle.ints.specs.declared.Seconds.{Seconds}
 use Rattle.model.specs.declared.Slot.{Slot}
 use Rattle.model.specs.declared.Limit.{Limit}
 use Rattle.model.specs.declared.Case.{Case}
+use Rattle.model.specs.declared.Form.{Form}
 use Rattle.model.specs.declared.Fault.{Fault}
 use Rattle.model.specs.declared.Fault.the-variants as fault
 use Rattle.model.specs.Sizes.{mostDepartures, mostCycles, mostZones, timeLimit, boundLimit, startLimit, tableSize, patternSize, workspaceSize}
+use Rattle.model.specs.Forms.{mostIn, markless}
 use Rattle.model.specs.Lists.{when, orElse}
 use Rattle.model.specs.Bound as B
 use Rattle.model.specs.Bound.{Bound, upto}
@@ -85,9 +87,13 @@ beyond limit e = e .has && ltb limit (natAbs (e .value .0))
 unfoldable pub over : ℕ → (ℕ → Fault) → ℕ → Slot → Option Fault
 over limit f p e = when (beyond limit e) (f p)
 
--- of the bound at p: 6, then 16 if it is strict where there is no place for a mark
-unfoldable pub boundFault : Bool → ℕ → Limit → Option Fault
-boundFault marks p e = orElse (over boundLimit fault.Bound p (stated e)) (when (not marks && (e .has && e .strict)) (fault.Form p))
+-- of the bound at p: 6
+unfoldable pub boundFault : ℕ → Limit → Option Fault
+boundFault p e = over boundLimit fault.Bound p (stated e)
+
+-- for a form: 6, then 16 if it is strict and the form has no place for its mark
+unfoldable pub boundFaultIn : Form → ℕ → Limit → Option Fault
+boundFaultIn f p e = orElse (boundFault p e) (when (markless f && (e .has && e .strict)) (fault.Form p))
 
 -- the first fault of the entries, which are numbered from p on, by what judge says of each
 unfoldable pub entryFault : {A : Type 0} → (ℕ → A → Option Fault) → ℕ → List A → Option Fault
@@ -104,25 +110,33 @@ rowsFault n (suc r) p es =
 unfoldable pub outside : ℕ → ℕ → ℕ → Bool
 outside low high k = ltb k low || ltb high k
 
--- faults 2 and 3, the second for a number of cycles from low on; then 4 and 5, row by row
-unfoldable pub tableFault : Case → ℕ → ℕ → Option Fault
-tableFault c low k =
-    orElse (when (outside 1 mostDepartures (c .n)) fault.Departures)
-    (orElse (when (outside low mostCycles k) fault.Horizon) (rowsFault (c .n) (c .n) 0 (c .times)))
+-- fault 2
+abbrev pub departuresFault : Case → Option Fault
+departuresFault c = when (outside 1 mostDepartures (c .n)) fault.Departures
 
--- then the bounds, of the start followed by the target, with or without a place for marks
-unfoldable pub patternsFault : Bool → Case → Option Fault
-patternsFault marks c =
+-- fault 3, for k cycles of which there are to be at least low; then 4 and 5, row by row
+abbrev pub timesFault : Case → ℕ → ℕ → Option Fault
+timesFault c low k = orElse (when (outside low mostCycles k) fault.Horizon) (rowsFault (c .n) (c .n) 0 (c .times))
+
+unfoldable pub tableFault : Case → ℕ → ℕ → Option Fault
+tableFault c low k = orElse (departuresFault c) (timesFault c low k)
+
+-- the bounds, of the start followed by the target, by what judge says of each
+unfoldable pub patternsFault : (ℕ → Limit → Option Fault) → Case → Option Fault
+patternsFault judge c =
     let size = patternSize (c .n) in
-    orElse (entryFault (boundFault marks) 0 (take size (c .start))) (entryFault (boundFault marks) size (take size (c .target)))
+    orElse (entryFault judge 0 (take size (c .start))) (entryFault judge size (take size (c .target)))
 
 -- the first fault of an unpacked case by itself, 2 to 6
 unfoldable pub caseFault : Case → Option Fault
-caseFault c = orElse (tableFault c 1 (c .horizon .0)) (patternsFault true c)
+caseFault c = orElse (tableFault c 1 (c .horizon .0)) (patternsFault boundFault c)
 
--- of a case for document 01's packed form, which has no place for a mark: 2 to 6, with 16
-unfoldable pub formFault : Case → Option Fault
-formFault c = orElse (tableFault c 1 (c .horizon .0)) (patternsFault false c)
+-- of a case for a packed form: 2; 16 where it has no place for n; 3 to 5; 6 and 16 of the bounds
+unfoldable pub formFault : Form → Case → Option Fault
+formFault f c =
+    orElse (departuresFault c)
+    (orElse (when (ltb (mostIn f) (c .n)) (fault.Form 0))
+    (orElse (timesFault c 1 (c .horizon .0)) (patternsFault (boundFaultIn f) c)))
 
 -- then 9 and 10
 unfoldable pub roomFault : ℕ → ℕ → ℕ → Option Fault

@@ -1,5 +1,6 @@
 -- The definitions, in document 01's order. Sizes, lists and options first; the marked examples last.
 pub mod Sizes
+pub mod Forms
 pub mod Lists
 pub mod Bound
 pub mod Matrix

@@ -1,19 +1,23 @@
 -- The packed case: what reading a list of bytes gives. Bits are numbered from 0, the most significant of the first byte first.
+-- An entry's kind serves the writer too.
 use Prim.Native.Nat.{ℕ, zero, suc, _+_, _-_, _*_, _/_, _%_, _^_}
 use mathlib.Core.List.{List, [], _∷_, _++_, map}
-use mathlib.Core.Bool.{cond}
+use mathlib.Core.Bool.{Bool, true, cond}
+use mathlib.Core.Option.{Option, none, some}
 use lib.ListN.{length, getD}
 use lib.Dec.{ltb, leb, eqb}
-use lib.IntN.{ℤ, pos, _-ℤ_}
+use lib.IntN.{ℤ, pos, negsuc, _-ℤ_}
 use Rattle.model.specs.declared.Slot.{Slot}
 use Rattle.model.specs.declared.Limit.{Limit}
 use Rattle.model.specs.declared.Case.{Case}
+use Rattle.model.specs.declared.Form.{Form}
 use Rattle.model.specs.declared.Fault.{Fault}
 use Rattle.model.specs.declared.Fault.the-variants as fault
-use Rattle.model.specs.Sizes.{mostBounds, timeLimit, boundLimit, patternSize, departuresWidth, horizonWidth, timeWidth, boundWidth}
+use Rattle.model.specs.Sizes.{mostBounds, timeLimit, patternSize, wideLead, horizonWidth, timeWidth, boundWidth}
+use Rattle.model.specs.Forms.{old, wide}
 use Rattle.model.specs.Lists.{padded}
 use Rattle.model.specs.Network.{regular}
-use Rattle.model.specs.Faults.{timeOf, nothing, present, unmarked, beyond}
+use Rattle.model.specs.Faults.{timeOf, nothing, present, unmarked, over, boundFaultIn}
 
 -- a value and the place after it, or the first fault
 pub data Reading (A : Type 0) : Type 0 where
@@ -40,37 +44,74 @@ numAt s p w = numOf (bitAt s) p w
 unfoldable pub bits : List ℕ → ℕ → ℕ → ℕ → Reading ℕ
 bits s w first p = cond (leb (p + w) (8 * length s)) (got (numAt s p w) (p + w)) (refused (fault.CaseEnds first))
 
--- two's complement, half being the weight of the sign bit
+-- two's complement, half being the weight of the sign bit, and back
 unfoldable pub signed : ℕ → ℕ → ℤ
 signed half raw = cond (ltb raw half) (pos raw) (pos raw -ℤ pos (half * 2))
 
--- an entry: a presence bit, then w bits if it is 1, at most limit in size
-abbrev pub inRange : ℕ → (ℕ → Fault) → ℕ → Slot → ℕ → Reading Slot
-inRange limit f p e q = cond (beyond limit e) (refused (f p)) (got e q)
+unfoldable pub rawOf : ℕ → ℤ → ℕ
+rawOf half (pos v) = v
+rawOf half (negsuc v) = half * 2 - suc v
 
-abbrev pub ifPresent : List ℕ → ℕ → ℕ → (ℕ → Fault) → ℕ → ℕ → ℕ → Reading Slot
-ifPresent s w limit f p bit q =
-    cond (eqb bit 0) (got nothing q) (andThen (bits s w p q) (λ raw r. inRange limit f p (present (signed (2 ^ (w - 1)) raw)) r))
+-- ---- entries
+-- a kind of entry: how many bits follow its presence bit, what an absent one is, whether one is present,
+-- what the number that these bits spell stands for, the number of an entry, and the fault of an entry at a place
+pub record Kind (A : Type 0) : Type 0 where
+  pub width : ℕ
+  pub absent : A
+  pub has : A → Bool
+  pub value : ℕ → A
+  pub raw : A → ℕ
+  pub judge : ℕ → A → Option Fault
 
-unfoldable pub entry : List ℕ → ℕ → ℕ → (ℕ → Fault) → ℕ → Reading Slot
-entry s w limit f p = andThen (bits s 1 p p) (ifPresent s w limit f p)
+abbrev pub timeKind : Kind Slot
+timeKind = record {
+  width = timeWidth;
+  absent = nothing;
+  has = λ e. e .has;
+  value = λ raw. present (signed (2 ^ (timeWidth - 1)) raw);
+  raw = λ e. rawOf (2 ^ (timeWidth - 1)) (e .value .0);
+  judge = over timeLimit fault.Time;
+}
 
--- k entries, after those of before
-unfoldable pub entries : List ℕ → ℕ → ℕ → (ℕ → Fault) → ℕ → ℕ → List Slot → Reading (List Slot)
-entries s w limit f zero p before = got before p
-entries s w limit f (suc k) p before = andThen (entry s w limit f p) (λ e q. entries s w limit f k q (before ++ e ∷ []))
+-- a bound: its mark, where the form has a place for it, then its value; 1 is strict
+abbrev pub limitOf : ℕ → Limit
+limitOf raw = record { has = true; strict = leb (2 ^ boundWidth) raw; value = record { 0 = signed (2 ^ (boundWidth - 1)) (raw % 2 ^ boundWidth) } }
 
--- k rows of n times, after those of before
+abbrev pub boundKind : Form → Kind Limit
+boundKind f = record {
+  width = f .mark + boundWidth;
+  absent = unmarked nothing;
+  has = λ e. e .has;
+  value = limitOf;
+  raw = λ e. cond (e .strict) (2 ^ boundWidth) 0 + rawOf (2 ^ (boundWidth - 1)) (e .value .0);
+  judge = boundFaultIn f;
+}
+
+-- an entry that was read, unless it has a fault
+abbrev pub unlessFaulty : {A : Type 0} → Option Fault → A → ℕ → Reading A
+unlessFaulty (some f) e q = refused f
+unlessFaulty none e q = got e q
+
+-- an entry: a presence bit, then its number if that is 1
+unfoldable pub entry : {A : Type 0} → Kind A → List ℕ → ℕ → Reading A
+entry k s p =
+    andThen (bits s 1 p p) (λ bit q.
+    cond (eqb bit 0) (got (k .absent) q)
+    (andThen (bits s (k .width) p q) (λ raw r. unlessFaulty (k .judge p (k .value raw)) (k .value raw) r)))
+
+-- count entries, after those of before
+unfoldable pub entries : {A : Type 0} → Kind A → List ℕ → ℕ → ℕ → List A → Reading (List A)
+entries k s zero p before = got before p
+entries k s (suc count) p before = andThen (entry k s p) (λ e q. entries k s count q (before ++ e ∷ []))
+
+-- count rows of n times, after those of before
 unfoldable pub rows : List ℕ → ℕ → ℕ → ℕ → List Slot → Reading (List Slot)
 rows s n zero p before = got before p
-rows s n (suc k) p before =
-    andThen (entries s timeWidth timeLimit fault.Time n p []) (λ row q.
-    cond (regular (map timeOf row)) (rows s n k q (before ++ row)) (refused (fault.EmptyRow p)))
+rows s n (suc count) p before =
+    andThen (entries timeKind s n p []) (λ row q.
+    cond (regular (map timeOf row)) (rows s n count q (before ++ row)) (refused (fault.EmptyRow p)))
 
--- the bounds of a pattern: none is strict
-unfoldable pub bounds : List ℕ → ℕ → ℕ → Reading (List Limit)
-bounds s n p = andThen (entries s boundWidth boundLimit fault.Bound (patternSize n) p []) (λ es q. got (map unmarked es) q)
-
+-- ---- the case
 -- k bits that are 0
 unfoldable pub zeros : List ℕ → ℕ → ℕ → Reading ℕ
 zeros s zero p = got 0 p
@@ -93,17 +134,24 @@ caseOf n h times start target = record {
 }
 
 -- what follows the two numbers
-unfoldable pub body : List ℕ → ℕ → ℕ → ℕ → Reading Case
-body s n h p =
+unfoldable pub body : Form → List ℕ → ℕ → ℕ → ℕ → Reading Case
+body f s n h p =
     andThen (rows s n n p []) (λ times a.
-    andThen (bounds s n a) (λ start b.
-    andThen (bounds s n b) (λ target c.
+    andThen (entries (boundKind f) s (patternSize n) a []) (λ start b.
+    andThen (entries (boundKind f) s (patternSize n) b []) (λ target c.
     andThen (fill s c) (λ z d.
     got (caseOf n h times start target) d))))
 
-unfoldable pub parse : List ℕ → Reading Case
-parse s =
-    andThen (bits s departuresWidth 0 0) (λ n a.
+-- a case in one form: where the bits in front are not 0 it is in the other
+unfoldable pub parseAs : Form → List ℕ → Reading Case
+parseAs f s =
+    andThen (bits s (f .lead) 0 0) (λ z a.
+    cond (ltb 0 z) (refused fault.Departures)
+    (andThen (bits s (f .digits) a a) (λ n b.
     cond (eqb n 0) (refused fault.Departures)
-    (andThen (bits s horizonWidth a a) (λ m b.
-    body s n (m + 1) b)))
+    (andThen (bits s horizonWidth b b) (λ m c.
+    body f s n (m + 1) c)))))
+
+-- in either form: the zero bits in front tell the wide one
+unfoldable pub parse : List ℕ → Reading Case
+parse s = andThen (bits s wideLead 0 0) (λ z a. parseAs (cond (eqb z 0) wide old) s)

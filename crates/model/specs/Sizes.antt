@@ -3,7 +3,11 @@ use Prim.Native.Nat.{ℕ, suc, _+_, _*_, _/_}
 
 -- the most departures of a network, cycles of a horizon, zones of a capacity
 abbrev pub mostDepartures : ℕ
-mostDepartures = 7
+mostDepartures = 15
+
+-- networks of so few departures get more zones from the program, as request [7] says, and smaller tables beside the workspace
+abbrev pub fewDepartures : ℕ
+fewDepartures = 7
 
 abbrev pub mostCycles : ℕ
 mostCycles = 64
@@ -52,10 +56,24 @@ mostBounds = patternSize mostDepartures
 abbrev pub mostNumbers : ℕ
 mostNumbers = zoneSize mostDepartures
 
--- the bits of a packed case's fields: n, N - 1, the value of a time, the value of a bound
-abbrev pub departuresWidth : ℕ
-departuresWidth = 3
+-- the most times that are tightened at once, beside the clock: two for each departure
+abbrev pub mostTimesAtOnce : ℕ
+mostTimesAtOnce = 2 * mostDepartures
 
+-- the bits of a packed case's fields. In document 01's form: n. In the wide form: the zero bits in front, n, the mark of a bound
+abbrev pub oldDigits : ℕ
+oldDigits = 3
+
+abbrev pub wideLead : ℕ
+wideLead = 3
+
+abbrev pub wideDigits : ℕ
+wideDigits = 4
+
+abbrev pub wideMark : ℕ
+wideMark = 1
+
+-- in both forms: N - 1, the value of a time, the value of a bound
 abbrev pub horizonWidth : ℕ
 horizonWidth = 6
 
@@ -65,9 +83,13 @@ timeWidth = 18
 abbrev pub boundWidth : ℕ
 boundWidth = 21
 
+-- the bits of the longest number, which is a bound's with its mark
+abbrev pub mostWidth : ℕ
+mostWidth = wideMark + boundWidth
+
 -- the bits and the bytes of the longest packed case
 abbrev pub mostBits : ℕ
-mostBits = departuresWidth + horizonWidth + mostTimes * suc timeWidth + 2 * (mostBounds * suc boundWidth)
+mostBits = wideLead + wideDigits + horizonWidth + mostTimes * suc timeWidth + 2 * (mostBounds * suc mostWidth)
 
 abbrev pub mostBytes : ℕ
 mostBytes = (mostBits + 7) / 8

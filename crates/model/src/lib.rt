@@ -10,7 +10,10 @@ use ints::Seconds;
 use ints::ZERO;
 
 // The most departures of a network, cycles of a horizon and zones of a capacity.
-pub const DEPARTURES: usize = 7;
+pub const DEPARTURES: usize = 15;
+
+// Networks of so few departures get more zones from the program and smaller tables beside the workspace.
+pub const FEW: usize = 7;
 
 pub const CYCLES: usize = 64;
 
@@ -23,9 +26,7 @@ pub const BOUND_LIMIT: u64 = 1000000;
 
 pub const START_LIMIT: u64 = 1000000000000;
 
-// The bits of a packed case's fields: n, N - 1, the value of a time and of a bound.
-pub const DEPARTURES_WIDTH: usize = 3;
-
+// The bits of a packed case's fields: N - 1, the value of a time and of a bound.
 pub const HORIZON_WIDTH: usize = 6;
 
 pub const TIME_WIDTH: usize = 18;
@@ -38,6 +39,35 @@ pub const TIMES: usize = DEPARTURES * DEPARTURES;
 pub const BOUNDS: usize = DEPARTURES * (DEPARTURES + 1);
 
 pub const NUMBERS: usize = (DEPARTURES + 1) * (DEPARTURES + 1);
+
+// A form of a packed case: how many zero bits stand in front, and the bits of n and of a bound's mark.
+pub struct Form {
+    pub lead: usize,
+    pub digits: usize,
+    pub mark: usize,
+}
+
+// Document 01's form and the wide one.
+pub const OLD: Form = Form {
+    lead: 0,
+    digits: 3,
+    mark: 0,
+};
+
+pub const WIDE: Form = Form {
+    lead: 3,
+    digits: 4,
+    mark: 1,
+};
+
+// The bits and the bytes of the longest packed case.
+pub const BITS: usize = WIDE.lead
+    + WIDE.digits
+    + HORIZON_WIDTH
+    + TIMES * (1 + TIME_WIDTH)
+    + 2 * BOUNDS * (1 + WIDE.mark + BOUND_WIDTH);
+
+pub const BYTES: usize = (BITS + 7) / 8;
 
 // An entry of a table: its value counts where has is true.
 pub struct Slot {

@@ -1,20 +1,26 @@
 -- How the private answers say what a reading gives.
 use mathlib.Core.Path.{_≡_}
-use mathlib.Core.Bool.{true, false, cond}
-use Prim.Native.Nat.{ℕ, _+_, _-_, _*_, _^_, _≤_, _<_}
-use mathlib.Core.List.{List}
+use mathlib.Core.Bool.{cond}
+use mathlib.Core.Option.{Option, none, some}
+use Prim.Native.Nat.{ℕ, _+_, _-_, _*_, _≤_}
+use mathlib.Core.List.{List, []}
+use lib.Dec.{eqb}
 use lib.ListN.{length}
-use Rattle.model.specs.Sizes.{timeLimit, boundLimit, mostTimes, mostBounds, timeWidth, boundWidth, mostBits}
+use Rattle.model.specs.Sizes.{mostTimes, mostBounds, patternSize, timeWidth, mostWidth, mostBits}
 use Rattle.model.specs.declared.Slot.{Slot}
-use Rattle.model.specs.declared.Fault.{Fault}
+use Rattle.model.specs.declared.Limit.{Limit}
+use Rattle.model.specs.declared.Form.{Form}
 use Rattle.model.specs.declared.Fault.the-variants as fault
 use Rattle.model.specs.Lists.{padded}
-use Rattle.model.specs.Packed.{Reading, got, refused, andThen, entry}
+use Rattle.model.specs.Packed.{Reading, got, refused, andThen, bits, boundKind, entries}
 use Rattle.packed.specs.declared.Field.{Field}
 use Rattle.packed.specs.declared.Field.the-variants as field
-use Rattle.packed.specs.declared.EntryKind.{EntryKind}
+use Rattle.packed.specs.declared.NumberRead.{NumberRead}
+use Rattle.packed.specs.declared.NumberRead.the-variants as number
 use Rattle.packed.specs.declared.SlotRead.{SlotRead}
 use Rattle.packed.specs.declared.SlotRead.the-variants as slot
+use Rattle.packed.specs.declared.LimitRead.{LimitRead}
+use Rattle.packed.specs.declared.LimitRead.the-variants as limit
 use Rattle.packed.specs.declared.Next.{Next}
 use Rattle.packed.specs.declared.Next.the-variants as next
 
@@ -33,7 +39,7 @@ abbrev pub mostTableBits : ℕ
 mostTableBits = mostTimes * (1 + timeWidth)
 
 abbrev pub mostPatternBits : ℕ
-mostPatternBits = mostBounds * (1 + boundWidth)
+mostPatternBits = mostBounds * (1 + mostWidth)
 
 -- ---- a field, whose first place is first
 abbrev pub fieldRead : ℕ → Field → Reading ℕ
@@ -41,32 +47,30 @@ fieldRead first (field.Got v c) = got v (c .at)
 fieldRead first field.Ends = refused (fault.CaseEnds first)
 
 -- ---- an entry
--- the fault of a value beyond the limit, at place p
-abbrev pub faultOf : EntryKind → ℕ → Fault
-faultOf k p = cond (k .bound) (fault.Bound p) (fault.Time p)
+-- its number of w bits, where its presence bit is 1
+unfoldable pub numberOf : ℕ → List ℕ → ℕ → Reading (Option ℕ)
+numberOf w s p =
+    andThen (bits s 1 p p) (λ bit q.
+    cond (eqb bit 0) (got none q) (andThen (bits s w p q) (λ raw r. got (some raw) r)))
 
-abbrev pub timeEntry : EntryKind
-timeEntry = record { width = timeWidth; half = 2 ^ (timeWidth - 1); limit = timeLimit; bound = false }
-
-abbrev pub boundEntry : EntryKind
-boundEntry = record { width = boundWidth; half = 2 ^ (boundWidth - 1); limit = boundLimit; bound = true }
-
-abbrev pub entryOf : EntryKind → List ℕ → ℕ → Reading Slot
-entryOf k s p = entry s (k .width) (k .limit) (faultOf k) p
-
--- what is asked of the kind of an entry at place p
-pub record EntryAt (k : EntryKind) (p : ℕ) : Type 0 where
-  pub room : p + (1 + k .width) ≤ mostBits
-  pub some : 0 < k .width
-  pub few : k .width ≤ boundWidth
-  pub weight : k .half ≡ 2 ^ (k .width - 1)
-  pub small : k .limit ≤ boundLimit
+abbrev pub numberRead : ℕ → NumberRead → Reading (Option ℕ)
+numberRead p (number.Present raw c) = got (some raw) (c .at)
+numberRead p (number.Absent c) = got none (c .at)
+numberRead p number.Ends = refused (fault.CaseEnds p)
 
 abbrev pub slotRead : SlotRead → Reading Slot
 slotRead (slot.Got e c) = got e (c .at)
 slotRead (slot.Faulty f) = refused f
 
+abbrev pub limitRead : LimitRead → Reading Limit
+limitRead (limit.Got e c) = got e (c .at)
+limitRead (limit.Faulty f) = refused f
+
 -- ---- entries
+-- the bounds of a pattern
+abbrev pub boundsOf : Form → List ℕ → ℕ → ℕ → Reading (List Limit)
+boundsOf f s n p = entries (boundKind f) s (patternSize n) p []
+
 -- where the next part starts, 0 where none does
 abbrev pub placeOf : Next → ℕ
 placeOf (next.At c) = c .at

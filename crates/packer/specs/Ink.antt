@@ -2,17 +2,22 @@
 use mathlib.Core.Path.{_≡_}
 use Prim.Native.Nat.{ℕ, _+_, _-_, _*_, _^_, _≤_, _<_}
 use mathlib.Core.List.{List, _++_, map}
+use mathlib.Core.Bool.{true, cond}
+use mathlib.Core.Option.{none}
 use lib.ListN.{length, getD, take, drop}
-use Rattle.model.specs.Sizes.{mostCycles, mostBounds, tableSize, patternSize, departuresWidth, horizonWidth, timeWidth, boundWidth}
-use Rattle.model.specs.declared.Slot.{Slot}
+use lib.IntN.{natAbs}
+use Rattle.model.specs.Sizes.{mostCycles, mostBounds, tableSize, patternSize, timeWidth, boundWidth, mostWidth}
+use Rattle.model.specs.declared.Limit.{Limit}
 use Rattle.model.specs.declared.Case.{Case}
-use Rattle.model.specs.declared.Fault.the-variants as fault
+use Rattle.model.specs.declared.Form.{Form}
+use Rattle.model.specs.Forms.{mostIn}
 use Rattle.model.specs.Lists.{tabulate, Every}
-use Rattle.model.specs.Packed.{numOf}
-use Rattle.model.specs.Writing.{Kind, slotKind, fieldBits, bytesOf, entriesBits}
-use Rattle.model.specs.Faults.{stated}
-use Rattle.model.specs.Conditions.{Departures, InLimit}
+use Rattle.model.specs.Packed.{numOf, rawOf, Kind}
+use Rattle.model.specs.Writing.{bytesOf, entriesBits, headBits}
+use Rattle.model.specs.Faults.{nothing, unmarked}
+use Rattle.model.specs.Conditions.{Departures, FormLimits}
 use Rattle.packer.specs.declared.Pen.{Pen}
+use Rattle.packer.specs.declared.Widths.{Widths}
 
 -- ---- bits in bytes
 -- bit q, 0 behind the last one
@@ -58,56 +63,79 @@ abbrev pub Filled : Pen → List ℕ → List ℕ → Type 0
 Filled pen out after = (first bs : List ℕ) → Inked first bs pen out → InFront (bytesOf bs) first after
 
 -- ---- entries
--- an entry's bits depend on the width of its kind alone: any limit and fault will do
-abbrev pub ofWidth : ℕ → Kind Slot
-ofWidth width = slotKind width 0 fault.Time
+-- the number of an entry that is present: its mark in front of its value of width bits
+abbrev pub numberOf : ℕ → Limit → ℕ
+numberOf width e = cond (e .strict) (2 ^ width) 0 + rawOf (2 ^ (width - 1)) (e .value .0)
 
--- the widths of values that the pen takes
-pub record FieldWidth (width : ℕ) : Type 0 where
-  pub some : 0 < width
-  pub few : width ≤ boundWidth
+-- an entry's bits depend on the widths of its mark and of its value alone; what else a kind says is not asked
+abbrev pub ofWidths : Widths → Kind Limit
+ofWidths widths = record {
+  width = widths .mark + widths .value;
+  absent = unmarked nothing;
+  has = λ e. e .has;
+  value = λ raw. unmarked nothing;
+  raw = numberOf (widths .value);
+  judge = λ p e. none;
+}
 
--- the value of an entry has so many bits
-abbrev pub Narrow : ℕ → Slot → Type 0
-Narrow width e = InLimit (2 ^ (width - 1) - 1) e
+-- the widths that the pen takes
+pub record WidthsIn (widths : Widths) : Type 0 where
+  pub some : 0 < widths .value
+  pub few : widths .value ≤ boundWidth
+  pub all-few : widths .mark + widths .value ≤ mostWidth
+
+-- those of a time and of a bound
+abbrev pub timeWidths : Widths
+timeWidths = record { mark = 0; value = timeWidth }
+
+abbrev pub boundWidths : Form → Widths
+boundWidths f = record { mark = f .mark; value = boundWidth }
+
+-- where it is present, the value of an entry has so many bits, and so has its number
+pub record Narrow (widths : Widths) (e : Limit) : Type 0 where
+  pub value-small : e .has ≡ true → natAbs (e .value .0) < 2 ^ (widths .value - 1)
+  pub number-small : e .has ≡ true → numberOf (widths .value) e < 2 ^ (widths .mark + widths .value)
 
 -- the first count entries of an array
-pub record AllIn (width count : ℕ) (slots : List Slot) : Type 0 where
+pub record AllIn (widths : Widths) (count : ℕ) (entries : List Limit) : Type 0 where
   pub within : count ≤ mostBounds
-  pub narrow : Every (Narrow width) (take count slots)
-
--- the bits of the two numbers in front
-abbrev pub headBits : ℕ → ℕ → List ℕ
-headBits n h = fieldBits departuresWidth n ++ fieldBits horizonWidth (h - 1)
+  pub narrow : Every (Narrow widths) (take count entries)
 
 -- the bits of the start's bounds and of the target's, size of each
-abbrev pub patternsBits : ℕ → List Slot → List Slot → List ℕ
-patternsBits size start target = entriesBits (ofWidth boundWidth) (take size start) ++ entriesBits (ofWidth boundWidth) (take size target)
+abbrev pub patternsBits : Form → ℕ → List Limit → List Limit → List ℕ
+patternsBits f size start target = let k = ofWidths (boundWidths f) in entriesBits k (take size start) ++ entriesBits k (take size target)
 
--- the horizons that have a field
-pub record Horizon (h : ℕ) : Type 0 where
-  pub some : 0 < h
-  pub few : h ≤ mostCycles
+-- both patterns
+pub record PatternsIn (f : Form) (size : ℕ) (start target : List Limit) : Type 0 where
+  pub form : FormLimits f
+  pub start-in : AllIn (boundWidths f) size start
+  pub target-in : AllIn (boundWidths f) size target
+
+-- n and h have their fields
+pub record NumbersIn (f : Form) (n h : ℕ) : Type 0 where
+  pub form : FormLimits f
+  pub place : n ≤ mostIn f
+  pub some-cycles : 0 < h
+  pub few-cycles : h ≤ mostCycles
 
 -- ---- a case by its entries
 -- the bits of the table
-abbrev pub tableBits : ℕ → List Slot → List ℕ
-tableBits n times = entriesBits (ofWidth timeWidth) (take (tableSize n) times)
+abbrev pub timesBits : ℕ → List Limit → List ℕ
+timesBits n times = entriesBits (ofWidths timeWidths) (take (tableSize n) times)
 
--- and of the case of n departures and h cycles
-unfoldable pub formBits : ℕ → ℕ → List Slot → List Slot → List Slot → List ℕ
-formBits n h times start target = headBits n h ++ tableBits n times ++ patternsBits (patternSize n) start target
+-- and of the case of n departures and h cycles in a form
+unfoldable pub formBits : Form → ℕ → ℕ → List Limit → List Limit → List Limit → List ℕ
+formBits f n h times start target = headBits f n h ++ timesBits n times ++ patternsBits f (patternSize n) start target
 
--- it keeps to its limits
-pub record Sound (n h : ℕ) (times start target : List Slot) : Type 0 where
+-- it keeps to its limits and to those of the form
+pub record Sound (f : Form) (n h : ℕ) (times start target : List Limit) : Type 0 where
   pub departures : Departures n
-  pub horizon : Horizon h
-  pub times-in : AllIn timeWidth (tableSize n) times
-  pub start-in : AllIn boundWidth (patternSize n) start
-  pub target-in : AllIn boundWidth (patternSize n) target
+  pub numbers-in : NumbersIn f n h
+  pub times-in : AllIn timeWidths (tableSize n) times
+  pub patterns-in : PatternsIn f (patternSize n) start target
 
--- these are the entries of the case, its bounds without their marks
-pub record EntriesOf (c : Case) (times start target : List Slot) : Type 0 where
-  pub times-are : times ≡ c .times
-  pub start-are : start ≡ map stated (c .start)
-  pub target-are : target ≡ map stated (c .target)
+-- these are the entries of the case, its times as bounds that are not strict
+pub record EntriesOf (c : Case) (times start target : List Limit) : Type 0 where
+  pub times-are : times ≡ map unmarked (c .times)
+  pub start-are : start ≡ c .start
+  pub target-are : target ≡ c .target

@@ -4,29 +4,42 @@ ghost use mathlib.Core.List.{map};
 ghost use Prim.Native.Nat.{ℕ, _+_, _-_, _*_, _^_, _≤_, _<_};
 ghost use lib.ListN.{length, take};
 ghost use lib.IntN.{natAbs};
-ghost use Rattle.model.specs.Sizes.{mostDepartures, mostBounds, departuresWidth, horizonWidth, boundWidth};
+ghost use Rattle.model.specs.Sizes.{mostBounds, boundWidth, mostWidth};
+ghost use Rattle.model.specs.Forms.{old, wide};
 ghost use Rattle.model.specs.Faults;
-ghost use Rattle.model.specs.Conditions.{Departures};
-ghost use Rattle.model.specs.Writing.{fieldBits, bytesOf, rawOf, entryBits, entriesBits, WriteGiven};
-ghost use Rattle.packer.specs.Ink.{CanInk, Inks, Filled, Horizon, ofWidth, FieldWidth, Narrow, AllIn, headBits, patternsBits};
-ghost use Rattle.packer.specs.Ink.{InFront, formBits, Sound, EntriesOf};
+ghost use Rattle.model.specs.Conditions.{Departures, FormLimits};
+ghost use Rattle.model.specs.Packed.{rawOf};
+ghost use Rattle.model.specs.Writing.{fieldBits, headBits, bytesOf, entryBits, entriesBits, WriteGiven};
+ghost use Rattle.packer.specs.Ink.{CanInk, Inks, Filled, numberOf, ofWidths, WidthsIn, Narrow, AllIn, boundWidths, NumbersIn, PatternsIn};
+ghost use Rattle.packer.specs.Ink.{InFront, patternsBits, formBits, Sound, EntriesOf};
 use ints::Cycle;
 use ints::Seconds;
 use model::BOUND_WIDTH;
 use model::BOUNDS;
 use model::Case;
-use model::DEPARTURES_WIDTH;
+use model::FREE;
 use model::Fault;
+use model::Form;
 use model::HORIZON_WIDTH;
 use model::Judged;
 use model::Limit;
-use model::NOTHING;
+use model::OLD;
 use model::Slot;
 use model::TIME_WIDTH;
+use model::WIDE;
 use model::Written;
 
-// The bits of n and of N - 1.
-const HEAD_WIDTH: usize = DEPARTURES_WIDTH + HORIZON_WIDTH;
+// The bits of an entry's mark and of its value.
+struct Widths {
+    mark: usize,
+    value: usize,
+}
+
+// Those of a time, which is a bound without a mark.
+const TIME: Widths = Widths {
+    mark: 0,
+    value: TIME_WIDTH,
+};
 
 // How far the writing got: the bytes that are full, how many bits are held for the next one, and the number that these spell.
 struct Pen {
@@ -48,10 +61,23 @@ fn raw(value: Seconds, half: u32) -> u32
     }
 }
 
+// The number of an entry that is present: its mark in front of its value of so many bits.
+fn number(entry: Limit, width: usize) -> u32
+    requires { ⌜ (0 < width) × (width ≤ boundWidth) × (natAbs (entry .value .0) < 2 ^ (width - 1)) ⌝ }
+    ensures { λ r. ⌜ r ≡ numberOf width entry ⌝ }
+{
+    let value = entry.value;
+    let number = raw(value, 1 << (width - 1));
+    if entry.strict {
+        return (1 << width) + number;
+    }
+    number
+}
+
 impl Pen {
     // The bits of a number. Each byte that is full is stored.
     fn bits(self, out: &mut [u8], width: usize, value: u32) -> Pen
-        requires { ⌜ CanInk width self (now out) × (width ≤ boundWidth) × (value < 2 ^ width) ⌝ }
+        requires { ⌜ CanInk width self (now out) × (width ≤ mostWidth) × (value < 2 ^ width) ⌝ }
         ensures { λ r. ⌜ Inks (fieldBits width value) self (now (out .entry)) r (now (out .exit)) ⌝ }
     {
         let mut full = self.full;
@@ -66,55 +92,57 @@ impl Pen {
         Pen { full, held, part }
     }
 
-    // An entry: a presence bit, then the value if it is 1.
-    fn entry(self, out: &mut [u8], slot: Slot, width: usize) -> Pen
-        requires { ⌜ CanInk (length (entryBits (ofWidth width) slot)) self (now out) × FieldWidth width × Narrow width slot ⌝ }
-        ensures { λ r. ⌜ Inks (entryBits (ofWidth width) slot) self (now (out .entry)) r (now (out .exit)) ⌝ }
+    // An entry: a presence bit, then the mark and the value if that is 1.
+    fn entry(self, out: &mut [u8], entry: Limit, widths: Widths) -> Pen
+        requires { ⌜ CanInk (length (entryBits (ofWidths widths) entry)) self (now out) × WidthsIn widths × Narrow widths entry ⌝ }
+        ensures { λ r. ⌜ Inks (entryBits (ofWidths widths) entry) self (now (out .entry)) r (now (out .exit)) ⌝ }
     {
-        if !slot.has {
+        if !entry.has {
             return self.bits(out, 1, 0);
         }
-        let value = slot.value;
-        let number = raw(value, 1 << (width - 1));
+        let number = number(entry, widths.value);
         let pen = self.bits(out, 1, 1);
-        pen.bits(out, width, number)
+        pen.bits(out, widths.mark + widths.value, number)
     }
 
     // The first entries of an array, one after the other.
-    fn entries(self, out: &mut [u8], slots: [Slot; BOUNDS], count: usize, width: usize) -> Pen
-        requires { ⌜ CanInk (length (entriesBits (ofWidth width) (take count slots))) self (now out) × FieldWidth width × AllIn width count slots ⌝ }
-        ensures { λ r. ⌜ Inks (entriesBits (ofWidth width) (take count slots)) self (now (out .entry)) r (now (out .exit)) ⌝ }
+    fn entries(self, out: &mut [u8], entries: [Limit; BOUNDS], count: usize, widths: Widths) -> Pen
+        requires { ⌜ CanInk (length (entriesBits (ofWidths widths) (take count entries))) self (now out) × WidthsIn widths × AllIn widths count entries ⌝ }
+        ensures { λ r. ⌜ Inks (entriesBits (ofWidths widths) (take count entries)) self (now (out .entry)) r (now (out .exit)) ⌝ }
     {
         let mut pen = self;
         for i in 0..count {
-            let slot = slots[i];
-            pen = pen.entry(out, slot, width);
+            let limit = entries[i];
+            pen = pen.entry(out, limit, widths);
         }
         pen
     }
 
-    // The two numbers in front.
-    fn head(self, out: &mut [u8], n: usize, horizon: Cycle) -> Pen
-        requires { ⌜ CanInk (departuresWidth + horizonWidth) self (now out) × (n ≤ mostDepartures) × Horizon (horizon .0) ⌝ }
-        ensures { λ r. ⌜ Inks (headBits n (horizon .0)) self (now (out .entry)) r (now (out .exit)) ⌝ }
+    // The numbers in front.
+    fn head(self, out: &mut [u8], n: usize, horizon: Cycle, form: Form) -> Pen
+        requires { ⌜ CanInk (length (headBits form n (horizon .0))) self (now out) × NumbersIn form n (horizon .0) ⌝ }
+        ensures { λ r. ⌜ Inks (headBits form n (horizon .0)) self (now (out .entry)) r (now (out .exit)) ⌝ }
     {
-        let pen = self.bits(out, DEPARTURES_WIDTH, n as u32);
-        pen.bits(out, HORIZON_WIDTH, (horizon.0 - 1) as u32)
+        let after_lead = self.bits(out, form.lead, 0);
+        let after_n = after_lead.bits(out, form.digits, n as u32);
+        after_n.bits(out, HORIZON_WIDTH, (horizon.0 - 1) as u32)
     }
 
     // The bounds of the start, then those of the target.
     fn patterns(
         self,
         out: &mut [u8],
-        start: [Slot; BOUNDS],
-        target: [Slot; BOUNDS],
+        start: [Limit; BOUNDS],
+        target: [Limit; BOUNDS],
         size: usize,
+        form: Form,
     ) -> Pen
-        requires { ⌜ CanInk (length (patternsBits size start target)) self (now out) × AllIn boundWidth size start × AllIn boundWidth size target ⌝ }
-        ensures { λ r. ⌜ Inks (patternsBits size start target) self (now (out .entry)) r (now (out .exit)) ⌝ }
+        requires { ⌜ CanInk (length (patternsBits form size start target)) self (now out) × PatternsIn form size start target ⌝ }
+        ensures { λ r. ⌜ Inks (patternsBits form size start target) self (now (out .entry)) r (now (out .exit)) ⌝ }
     {
-        let pen = self.entries(out, start, size, BOUND_WIDTH);
-        pen.entries(out, target, size, BOUND_WIDTH)
+        let widths = bound_widths(form);
+        let pen = self.entries(out, start, size, widths);
+        pen.entries(out, target, size, widths)
     }
 
     // Zero bits up to a whole byte.
@@ -127,23 +155,37 @@ impl Pen {
     }
 }
 
-// The bits that an entry takes.
-fn entry_length(slot: Slot, width: usize) -> usize
-    requires { ⌜ width ≤ boundWidth ⌝ }
-    ensures { λ r. ⌜ (r ≡ length (entryBits (ofWidth width) slot)) × (r ≤ 1 + boundWidth) ⌝ }
+// The bits of a bound's mark and of its value in a form.
+fn bound_widths(form: Form) -> Widths
+    ensures { λ r. ⌜ r ≡ boundWidths form ⌝ }
 {
-    if slot.has { 1 + width } else { 1 }
+    Widths {
+        mark: form.mark,
+        value: BOUND_WIDTH,
+    }
+}
+
+// The bits that an entry takes.
+fn entry_length(entry: Limit, widths: Widths) -> usize
+    requires { ⌜ WidthsIn widths ⌝ }
+    ensures { λ r. ⌜ (r ≡ length (entryBits (ofWidths widths) entry)) × (r ≤ 1 + mostWidth) ⌝ }
+{
+    if entry.has {
+        1 + (widths.mark + widths.value)
+    } else {
+        1
+    }
 }
 
 // The bits that the first entries of an array take.
-fn entries_length(slots: [Slot; BOUNDS], count: usize, width: usize) -> usize
-    requires { ⌜ (count ≤ mostBounds) × (width ≤ boundWidth) ⌝ }
-    ensures { λ r. ⌜ (r ≡ length (entriesBits (ofWidth width) (take count slots))) × (r ≤ (1 + boundWidth) * count) ⌝ }
+fn entries_length(entries: [Limit; BOUNDS], count: usize, widths: Widths) -> usize
+    requires { ⌜ (count ≤ mostBounds) × WidthsIn widths ⌝ }
+    ensures { λ r. ⌜ (r ≡ length (entriesBits (ofWidths widths) (take count entries))) × (r ≤ (1 + mostWidth) * count) ⌝ }
 {
     let mut total: usize = 0;
     for i in 0..count {
-        let slot = slots[i];
-        total += entry_length(slot, width);
+        let limit = entries[i];
+        total += entry_length(limit, widths);
     }
     total
 }
@@ -151,31 +193,37 @@ fn entries_length(slots: [Slot; BOUNDS], count: usize, width: usize) -> usize
 // The bits of a case with these entries.
 fn case_length(
     n: usize,
-    times: [Slot; BOUNDS],
-    start: [Slot; BOUNDS],
-    target: [Slot; BOUNDS],
+    times: [Limit; BOUNDS],
+    start: [Limit; BOUNDS],
+    target: [Limit; BOUNDS],
+    form: Form,
 ) -> usize
-    requires { ⌜ Departures n ⌝ }
-    ensures { λ r. ⌜ ((h : ℕ) → r ≡ length (formBits n h times start target)) ⌝ }
+    requires { ⌜ Departures n × FormLimits form ⌝ }
+    ensures { λ r. ⌜ ((h : ℕ) → r ≡ length (formBits form n h times start target)) ⌝ }
 {
     let size = n * (n + 1);
-    HEAD_WIDTH
-        + entries_length(times, n * n, TIME_WIDTH)
-        + entries_length(start, size, BOUND_WIDTH)
-        + entries_length(target, size, BOUND_WIDTH)
+    let widths = bound_widths(form);
+    form.lead
+        + form.digits
+        + HORIZON_WIDTH
+        + entries_length(times, n * n, TIME)
+        + entries_length(start, size, widths)
+        + entries_length(target, size, widths)
 }
 
 // The packed bytes of a case in its limits with these entries, for which the output has room.
 fn put_case(
     n: usize,
     horizon: Cycle,
-    times: [Slot; BOUNDS],
-    start: [Slot; BOUNDS],
-    target: [Slot; BOUNDS],
+    times: [Limit; BOUNDS],
+    start: [Limit; BOUNDS],
+    target: [Limit; BOUNDS],
+    form: Form,
     out: &mut [u8],
 )
-    requires { ⌜ Sound n (horizon .0) times start target × (length (bytesOf (formBits n (horizon .0) times start target)) ≤ length (now out)) ⌝ }
-    ensures { λ _. ⌜ InFront (bytesOf (formBits n (horizon .0) times start target)) (now (out .entry)) (now (out .exit)) ⌝ }
+    requires { ⌜ Sound form n (horizon .0) times start target
+        × (length (bytesOf (formBits form n (horizon .0) times start target)) ≤ length (now out)) ⌝ }
+    ensures { λ _. ⌜ InFront (bytesOf (formBits form n (horizon .0) times start target)) (now (out .entry)) (now (out .exit)) ⌝ }
 {
     let size = n * (n + 1);
     let pen = Pen {
@@ -183,60 +231,76 @@ fn put_case(
         held: 0,
         part: 0,
     };
-    let after_head = pen.head(out, n, horizon);
-    let after_times = after_head.entries(out, times, n * n, TIME_WIDTH);
-    let after_patterns = after_times.patterns(out, start, target, size);
+    let after_head = pen.head(out, n, horizon, form);
+    let after_times = after_head.entries(out, times, n * n, TIME);
+    let after_patterns = after_times.patterns(out, start, target, size, form);
     after_patterns.fill(out);
 }
 
-// The bounds without their marks.
-fn stated(limits: [Limit; BOUNDS]) -> [Slot; BOUNDS]
-    ensures { λ r. ⌜ r ≡ map Faults.stated limits ⌝ }
+// The times as bounds that are not strict.
+fn unmarked(times: [Slot; BOUNDS]) -> [Limit; BOUNDS]
+    ensures { λ r. ⌜ r ≡ map Faults.unmarked times ⌝ }
 {
-    let mut slots = [NOTHING; BOUNDS];
+    let mut limits = [FREE; BOUNDS];
     for i in 0..BOUNDS {
-        let limit = limits[i];
-        let value = limit.value;
-        slots[i] = Slot {
-            has: limit.has,
+        let slot = times[i];
+        let value = slot.value;
+        limits[i] = Limit {
+            has: slot.has,
+            strict: false,
             value,
         };
     }
-    slots
+    limits
 }
 
 // The packed bytes of a case that has these entries, or its first fault.
 fn write_entries(
     case: Case,
-    times: [Slot; BOUNDS],
-    start: [Slot; BOUNDS],
-    target: [Slot; BOUNDS],
+    times: [Limit; BOUNDS],
+    start: [Limit; BOUNDS],
+    target: [Limit; BOUNDS],
+    form: Form,
     out: &mut [u8],
 ) -> Written
-    requires { ⌜ EntriesOf case times start target ⌝ }
-    ensures { λ r. ⌜ WriteGiven case (now (out .entry)) r (now (out .exit)) ⌝ }
+    requires { ⌜ EntriesOf case times start target × FormLimits form ⌝ }
+    ensures { λ r. ⌜ WriteGiven form case (now (out .entry)) r (now (out .exit)) ⌝ }
 {
-    if let Judged::Refused(f) = judge::form_fault(case) {
+    if let Judged::Refused(f) = judge::form_fault(case, form) {
         return Written::Refused(f);
     }
     let n = case.n;
     let horizon = case.horizon;
-    let needed = (case_length(n, times, start, target) + 7) / 8;
+    let needed = (case_length(n, times, start, target, form) + 7) / 8;
     if out.len() < needed {
         return Written::Refused(Fault::Output(needed));
     }
-    put_case(n, horizon, times, start, target, out);
+    put_case(n, horizon, times, start, target, form, out);
     Written::Bytes(needed)
 }
 
-// The packed bytes of a case in front of the output, and how many they are. What stands behind them stays as it was; on a fault everything does.
-pub fn write(case: Case, out: &mut [u8]) -> Written
-    ensures { λ r. ⌜ WriteGiven case (now (out .entry)) r (now (out .exit)) ⌝ }
+// The packed bytes of a case in a form in front of the output, and how many they are. What stands behind them stays as it was; on a fault everything does.
+fn write_as(case: Case, form: Form, out: &mut [u8]) -> Written
+    requires { ⌜ FormLimits form ⌝ }
+    ensures { λ r. ⌜ WriteGiven form case (now (out .entry)) r (now (out .exit)) ⌝ }
 {
     let times = case.times;
     let start = case.start;
     let target = case.target;
-    let start_slots = stated(start);
-    let target_slots = stated(target);
-    write_entries(case, times, start_slots, target_slots, out)
+    let times_as_bounds = unmarked(times);
+    write_entries(case, times_as_bounds, start, target, form, out)
+}
+
+// In document 01's form.
+pub fn write(case: Case, out: &mut [u8]) -> Written
+    ensures { λ r. ⌜ WriteGiven old case (now (out .entry)) r (now (out .exit)) ⌝ }
+{
+    write_as(case, OLD, out)
+}
+
+// In the wide form.
+pub fn write_wide(case: Case, out: &mut [u8]) -> Written
+    ensures { λ r. ⌜ WriteGiven wide case (now (out .entry)) r (now (out .exit)) ⌝ }
+{
+    write_as(case, WIDE, out)
 }

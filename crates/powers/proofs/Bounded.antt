@@ -1,22 +1,20 @@
--- Sizes: the times of power r + 1 are at most r + 1 times the table's limit, so sums and differences of them are exact in 64 bits.
+-- Sizes: the times of power r + 1 are at most r + 1 times the table's limit, so that sums of them are numbers in memory.
 use Prim.Native.Nat.{ℕ, zero, suc, _+_, _*_, _≤_, _<_}
 use native.Mathlib.Omega.{arith}
 use mathlib.Core.Path.{_≡_}
 use mathlib.Core.List.{List}
-use lib.IntN.{natAbs, _-ℤ_}
+use lib.IntN.{natAbs}
 use lib.ListN.{getD}
-use mir.Syntax.{w64}
-use mir.Val.{SFits}
-use Rattle.ints.proofs.Integers.{sub-ud, abs-ud, fits, sized-fits}
 use Rattle.model.specs.Sizes.{mostCycles, timeLimit}
 use Rattle.model.specs.Network.{Time, blank, time, after, secsOf, product, power}
 use Rattle.model.specs.Conditions.{TimesSmall}
 use Rattle.model.proofs.Listed.{every-map, at-getD, every-tabulate, every-flatten}
 use Rattle.model.proofs.Sums.{after-small, latest-small, entries-small}
+use Rattle.memory.specs.Numbers.{noneIn}
 use Rattle.powers.specs.Readings.{AtMost, powerLimit}
 
 -- an entry of such a table
-pub entry-small : {limit : ℕ} {a : List Time} → AtMost limit a → (k : ℕ) → natAbs (secsOf (getD a k blank)) ≤ limit
+entry-small : {limit : ℕ} {a : List Time} → AtMost limit a → (k : ℕ) → natAbs (secsOf (getD a k blank)) ≤ limit
 unfolding secsOf
 entry-small {limit} small = at-getD {P = λ t. natAbs (secsOf t) ≤ limit} blank (omega arith) small
 
@@ -37,13 +35,6 @@ power-small n a p (suc r) =
 pub powers-small : (n : ℕ) (a : List Time) → TimesSmall n a → (r : ℕ) → r < mostCycles → AtMost powerLimit (power n a r)
 powers-small n a small r h = every-map (λ t l. omega arith) (power-small n a (entries-small n a small) r)
 
--- the sum of an entry of each, and the difference of two
-pub sum-fits : (n : ℕ) {a b : List Time} → AtMost powerLimit a → AtMost powerLimit b → (i l j : ℕ) → SFits w64 (secsOf (after (time n a i l) (time n b l j)))
-unfolding time
-sum-fits n {a} {b} p q i l j = sized-fits _ (omega (arith, after-small (time n a i l) (time n b l j) (entry-small p _) (entry-small q _)))
-
-pub difference-fits : {a b : List Time} → AtMost powerLimit a → AtMost powerLimit b → (k : ℕ) → SFits w64 (secsOf (getD b k blank) -ℤ secsOf (getD a k blank))
-difference-fits {a} {b} p q k =
-    let v = secsOf (getD a k blank) in
-    let w = secsOf (getD b k blank) in
-    fits (omega (arith, entry-small p k, entry-small q k, abs-ud v, abs-ud w, sub-ud w v))
+-- the sum of an entry of each
+pub sum-small : {a b : List Time} → AtMost powerLimit a → AtMost powerLimit b → (k l : ℕ) → natAbs (secsOf (after (getD a k blank) (getD b l blank))) < noneIn
+sum-small {a} {b} p q k l = omega (arith, after-small (getD a k blank) (getD b l blank) (entry-small p k) (entry-small q l))

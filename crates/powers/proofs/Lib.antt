@@ -1,5 +1,5 @@
--- Laws of sizes, of tables of slots, of the array of powers and of the search for a repeated power.
+-- Laws of numbers in memory that stand for times, of tables side by side, of the sizes of powers and of the search for a repeated one.
+pub mod Times
 pub mod Bounded
 pub mod Places
-pub mod Holding
 pub mod Searching

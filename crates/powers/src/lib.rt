@@ -1,27 +1,22 @@
-// The first repeated power of a table. There is room for all CYCLES powers, side by side in one flat array of slots, made by a repeat expression.
-// Power r + 1 stands from place r * TIMES on, by rows for n, whatever n is, so that places are linear in r. Arrays of slots go by value alone, and to copy
-// this one would take longer than the search: it stays in first_repeat, and the other functions are on slots and on single tables.
+// The first repeated power of a table in memory. The powers stand side by side in one flat array of numbers, made by a repeat expression: power r + 1 at
+// place r, that is, from number r * (n * n) on.
 ghost use mathlib.Core.Path.{_≡_};
-ghost use mathlib.Core.List.{[]};
-ghost use lib.IntN.{_-ℤ_};
-ghost use mir.Syntax.{w64};
-ghost use mir.Val.{SFits};
-ghost use Rattle.model.specs.Sizes.{mostCycles};
+ghost use mathlib.Core.Bool.{_&&_};
+ghost use Prim.Native.Nat.{_+_, _*_, _≤_, _<_};
+ghost use lib.IntN.{_-ℤ_, natAbs};
+ghost use lib.ListN.{length, take, getD};
+ghost use Rattle.model.specs.Sizes.{fewDepartures};
+ghost use Rattle.model.specs.Lists.{sameLists};
 ghost use Rattle.model.specs.Network;
-ghost use Rattle.model.specs.Network.{secs, secsOf, sameTime, powersFrom, firstRepeat};
-ghost use Rattle.model.specs.Faults.{timeOf, tableOf};
-ghost use Rattle.model.specs.Conditions.{TableLimits};
-ghost use Rattle.powers.specs.Readings.{repeatRead, Factors};
+ghost use Rattle.model.specs.Network.{blank, secs, isTime, secsOf, after, later, added, sameTime};
+ghost use Rattle.memory.specs.Numbers.{noneIn, timeIn, timesIn};
+ghost use Rattle.powers.specs.Readings.{repeatRead, repeatIn, repeatsAt, PlaceIn, EntryOf, Makeable, Made, TableReady, Searchable};
 use ints::Seconds;
 use ints::ZERO;
-use model::BOUNDS;
+use memory::NONE;
 use model::CYCLES;
-use model::NOTHING;
-use model::Slot;
+use model::FEW;
 use model::TIMES;
-
-// The places of all the powers.
-const PLACES: usize = CYCLES * TIMES;
 
 // Power q is power p with number added.
 pub struct Again {
@@ -36,77 +31,191 @@ pub enum Repeated {
     At(Again),
 }
 
-// The product of two tables: its entries are rows of the first by columns of the second.
-fn product(times: [Slot; BOUNDS], power: [Slot; BOUNDS], n: usize) -> [Slot; BOUNDS]
-    requires { ⌜ Factors n (tableOf n times) (tableOf n power) ⌝ }
-    ensures { λ r. ⌜ tableOf n r ≡ Network.product n (tableOf n times) (tableOf n power) ⌝ }
+fn is_time(raw: i32) -> bool
+    ensures { λ r. ⌜ r ≡ isTime (timeIn raw) ⌝ }
 {
-    let mut next = [NOTHING; BOUNDS];
-    for row in 0..n {
-        for column in 0..n {
-            let mut latest = NOTHING;
-            for l in 0..n {
-                let first = times[row * n + l];
-                let second = power[l * n + column];
-                latest = latest.later_sum(first, second);
-            }
-            next[row * n + column] = latest;
+    raw != NONE
+}
+
+fn both_times(a: i32, b: i32) -> bool
+    ensures { λ r. ⌜ r ≡ (isTime (timeIn a) && isTime (timeIn b)) ⌝ }
+{
+    is_time(a) & is_time(b)
+}
+
+// How much later b is than a.
+fn apart(a: i32, b: i32) -> Seconds
+    ensures { λ r. ⌜ r .0 ≡ b -ℤ a ⌝ }
+{
+    Seconds::of(b).minus(Seconds::of(a))
+}
+
+// The later of a time and of the sum of two.
+fn later_sum(latest: i32, first: i32, second: i32) -> i32
+    requires { ⌜ natAbs (secsOf (after (timeIn first) (timeIn second))) < noneIn ⌝ }
+    ensures { λ r. ⌜ timeIn r ≡ later (timeIn latest) (after (timeIn first) (timeIn second)) ⌝ }
+{
+    if !both_times(first, second) {
+        return latest;
+    }
+    let sum = first + second;
+    if !is_time(latest) | (latest <= sum) {
+        return sum;
+    }
+    latest
+}
+
+// Entry (i, j) of a product: row i of the first table by column j of the second.
+fn entry(first: &[i32], second: &[i32], n: usize, i: usize, j: usize) -> i32
+    requires { ⌜ EntryOf n (now first) (now second) i j ⌝ }
+    ensures { λ r. ⌜ timeIn r ≡ getD (Network.product n (timesIn (now (first .entry))) (timesIn (now (second .entry)))) (i * n + j) blank ⌝ }
+{
+    let mut latest = NONE;
+    for l in 0..n {
+        let a = first[i * n + l];
+        let b = second[l * n + j];
+        latest = later_sum(latest, a, b);
+    }
+    latest
+}
+
+// The product of the table and of that at place r, put at the next place.
+fn product(times: &[i32], powers: &mut [i32], n: usize, r: usize)
+    requires { ⌜ Makeable n r (now times) (now powers) ⌝ }
+    ensures { λ x. ⌜ Made n r (now (times .entry)) (now (powers .entry)) (now (powers .exit)) ⌝ }
+{
+    let size = n * n;
+    let from = r * size;
+    let goal = from + size;
+    let mut i = 0;
+    let mut j = 0;
+    for k in 0..size {
+        let e = entry(times, &powers[from..goal], n, i, j);
+        powers[goal + k] = e;
+        j += 1;
+        if j == n {
+            i += 1;
+            j = 0;
         }
     }
-    next
+}
+
+// What is added to the first table: the gap of the first place that holds a time in both.
+fn gap(first: &[i32], second: &[i32]) -> Seconds
+    requires { ⌜ length (now first) ≡ length (now second) ⌝ }
+    ensures { λ r. ⌜ r .0 ≡ Network.gap (timesIn (now (first .entry))) (timesIn (now (second .entry))) ⌝ }
+{
+    for k in 0..first.len() {
+        let a = first[k];
+        let b = second[k];
+        if both_times(a, b) {
+            return apart(a, b);
+        }
+    }
+    ZERO
 }
 
 // b is a with c added.
-fn moved(a: Slot, b: Slot, c: Seconds) -> bool
-    requires { ⌜ SFits w64 (secsOf (timeOf b) -ℤ secsOf (timeOf a)) ⌝ }
-    ensures { λ r. ⌜ r ≡ sameTime (Network.after (secs (c .0)) (timeOf a)) (timeOf b) ⌝ }
+fn moved(a: i32, b: i32, c: Seconds) -> bool
+    ensures { λ r. ⌜ r ≡ sameTime (after (secs (c .0)) (timeIn a)) (timeIn b) ⌝ }
 {
-    if !(a.has & b.has) {
-        return !(a.has | b.has);
+    if !both_times(a, b) {
+        return !(is_time(a) | is_time(b));
     }
-    let d = b.value.minus(a.value);
+    let d = apart(a, b);
     c.at_most(d) & d.at_most(c)
 }
 
-// The first repeated power of a table of n departures, whose entries stand in times by rows. The powers are made one after the other,
-// until one repeats an earlier one. What is added is the gap of the first place that holds a time in both; with it the entries are compared, the last first.
-pub fn first_repeat(times: [Slot; BOUNDS], n: usize) -> Repeated
-    requires { ⌜ TableLimits n (tableOf n times) ⌝ }
-    ensures { λ r. ⌜ repeatRead r ≡ firstRepeat 1 [] (powersFrom mostCycles n (tableOf n times) (tableOf n times)) ⌝ }
+// The second table is the first with c added. The last entries are compared first.
+fn all_moved(first: &[i32], second: &[i32], c: Seconds) -> bool
+    requires { ⌜ length (now first) ≡ length (now second) ⌝ }
+    ensures { λ r. ⌜ r ≡ sameLists sameTime (added (c .0) (timesIn (now (first .entry)))) (timesIn (now (second .entry))) ⌝ }
+{
+    let mut k = first.len();
+    while 0 < k {
+        k -= 1;
+        let a = first[k];
+        let b = second[k];
+        if !moved(a, b, c) {
+            return false;
+        }
+    }
+    true
+}
+
+// The first of the powers before that at place r which it repeats.
+fn repeats(powers: &[i32], n: usize, r: usize) -> Repeated
+    requires { ⌜ PlaceIn n r (now powers) ⌝ }
+    ensures { λ x. ⌜ repeatRead x ≡ repeatsAt n (now (powers .entry)) r ⌝ }
 {
     let size = n * n;
-    let mut powers = [NOTHING; PLACES];
-    let mut power = times;
-    for r in 0..CYCLES {
-        'earlier: for p in 0..r {
-            let mut number = ZERO;
-            for k in 0..size {
-                let a = powers[p * TIMES + k];
-                let b = power[k];
-                if a.has & b.has {
-                    number = b.value.minus(a.value);
-                    break;
-                }
-            }
-            for k in 0..size {
-                let at = size - 1 - k;
-                let a = powers[p * TIMES + at];
-                let b = power[at];
-                if !moved(a, b, number) {
-                    continue 'earlier;
-                }
-            }
+    let base = r * size;
+    let last = &powers[base..base + size];
+    for p in 0..r {
+        let from = p * size;
+        let earlier = &powers[from..from + size];
+        let number = gap(earlier, last);
+        if all_moved(earlier, last, number) {
             return Repeated::At(Again {
                 q: r + 1,
                 p: p + 1,
                 number,
             });
         }
-        for k in 0..size {
-            let e = power[k];
-            powers[r * TIMES + k] = e;
-        }
-        power = product(times, power, n);
     }
     Repeated::None
+}
+
+// The table, at place 0.
+fn put_first(powers: &mut [i32], times: &[i32])
+    requires { ⌜ length (now times) ≤ length (now powers) ⌝ }
+    ensures { λ r. ⌜ timesIn (take (length (now (times .entry))) (now (powers .exit))) ≡ timesIn (now (times .entry)) ⌝ }
+{
+    for k in 0..times.len() {
+        let e = times[k];
+        powers[k] = e;
+    }
+}
+
+// The powers are made one after the other, until one repeats an earlier one.
+fn search(times: &[i32], powers: &mut [i32], n: usize) -> Repeated
+    requires { ⌜ Searchable n (now times) (now powers) ⌝ }
+    ensures { λ r. ⌜ repeatRead r ≡ repeatIn n (now (times .entry)) ⌝ }
+{
+    put_first(powers, times);
+    for r in 0..CYCLES - 1 {
+        product(times, powers, n, r);
+        if let Repeated::At(again) = repeats(powers, n, r + 1) {
+            return Repeated::At(again);
+        }
+    }
+    Repeated::None
+}
+
+// With an array for few departures, so that small networks do not pay for large ones, and with one for all.
+fn search_few(times: &[i32], n: usize) -> Repeated
+    requires { ⌜ TableReady n (now times) × (n ≤ fewDepartures) ⌝ }
+    ensures { λ r. ⌜ repeatRead r ≡ repeatIn n (now (times .entry)) ⌝ }
+{
+    let mut powers = [0i32; CYCLES * FEW * FEW];
+    search(times, &mut powers, n)
+}
+
+fn search_many(times: &[i32], n: usize) -> Repeated
+    requires { ⌜ TableReady n (now times) ⌝ }
+    ensures { λ r. ⌜ repeatRead r ≡ repeatIn n (now (times .entry)) ⌝ }
+{
+    let mut powers = [0i32; CYCLES * TIMES];
+    search(times, &mut powers, n)
+}
+
+// The first repeated power of a table of n departures.
+pub fn first_repeat(times: &[i32], n: usize) -> Repeated
+    requires { ⌜ TableReady n (now times) ⌝ }
+    ensures { λ r. ⌜ repeatRead r ≡ repeatIn n (now (times .entry)) ⌝ }
+{
+    if n <= FEW {
+        return search_few(times, n);
+    }
+    search_many(times, n)
 }

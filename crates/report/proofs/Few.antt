@@ -1,10 +1,13 @@
 -- An answer has few lines, and few times in each.
-use Prim.Native.Nat.{ℕ, _≤_}
+use Prim.Native.Nat.{ℕ, suc, _≤_}
 use native.Mathlib.Omega.{arith}
+use native.Mathlib.Nat.{mul-le-mul}
+use native.Mathlib.Decide.{decLe}
+use borrow.Author.Tests.{le-leb, lt-leb}
 use mathlib.Core.Path.{_≡_, refl}
 use mathlib.Core.List.{List}
 use mathlib.Core.Option.{Option, none, some}
-use Rattle.model.specs.Sizes.{mostDepartures}
+use Rattle.model.specs.Sizes.{fewDepartures, mostDepartures, workspaceSize}
 use Rattle.model.specs.declared.Case.{Case}
 use Rattle.model.specs.declared.Fault.{Fault}
 use Rattle.model.specs.declared.Verdict.{Verdict}
@@ -16,7 +19,7 @@ use Rattle.model.specs.Demands.{InLimits}
 use Rattle.model.proofs.Limits.{no-fault, limits-of}
 use Rattle.model.proofs.Parsed.{parsed}
 use Rattle.model.proofs.DemandsHold.{demand2, answer-refused}
-use Rattle.report.specs.Text.{lineCount}
+use Rattle.report.specs.Text.{lineCount, programZones, programSpace}
 use Rattle.report.specs.Lengths.{mostLines}
 
 module _ (c : Case) (capacity size : ℕ) where
@@ -49,3 +52,14 @@ module _ (s : List ℕ) (capacity size : ℕ) where
 
   pub few : Few
   few = few-of (parse s) refl
+
+-- the program's workspace is long enough
+pub space-enough : (n : ℕ) → n ≤ mostDepartures → workspaceSize (programZones n) n ≤ programSpace
+space-enough n h = go (decLe n fewDepartures)
+  where
+    rows : {most : ℕ} → n ≤ most → suc n ≤ suc most
+    rows l = omega arith
+
+    go : Dec (n ≤ fewDepartures) → workspaceSize (programZones n) n ≤ programSpace
+    go (yes l) = rw (le-leb n fewDepartures l) (omega (arith, mul-le-mul (rows l) (rows l)))
+    go (no l) = rw (lt-leb n fewDepartures (omega arith)) (omega (arith, mul-le-mul (rows h) (rows h)))

@@ -22,7 +22,7 @@ use Rattle.model.specs.Demands.{InLimits}
 use Rattle.model.proofs.Cycles.{length-cycles}
 use Rattle.model.proofs.DemandsHold.{answer-refused, demand2}
 use Rattle.model.proofs.Runs.{start-runs}
-use Rattle.report.specs.Text.{line, lineOf, lines, lineCount, programZones, programSpace}
+use Rattle.report.specs.Text.{line, lineOf, lines, lineCount}
 use Rattle.report.proofs.Few.{few}
 
 -- a case that is reached is within the limits
@@ -64,24 +64,24 @@ module _ (s : List ℕ) (capacity size : ℕ) where
   lines-parts = parts-by (parse s) refl
 
 -- a verdict that is reached is so at cycle 64 at the latest
-cycle-few : (s : List ℕ) (k : ℕ) → answerPacked s programZones programSpace .verdict ≡ verdict.Reached (cycleNumber k) → k ≤ mostCycles
+cycle-few : (s : List ℕ) (capacity size k : ℕ) → answerPacked s capacity size .verdict ≡ verdict.Reached (cycleNumber k) → k ≤ mostCycles
 unfolding lineCount
-cycle-few s k e = let l = rw e at (few s programZones programSpace .cycles) in omega arith
+cycle-few s capacity size k e = let l = rw e at (few s capacity size .cycles) in omega arith
 
 -- the line of cycle j
-pub line-shows : (s : List ℕ) (c : Case) (q k j : ℕ) → parse s ≡ got c q
-    → let r = answerPacked s programZones programSpace in
+pub line-shows : (s : List ℕ) (c : Case) (q capacity size k j : ℕ) → parse s ≡ got c q
+    → let r = answerPacked s capacity size in
     let ts = cycles (c .n) (inParts (r .parts) (network c) .times) j (map (λ x. x .0) (take (c .n) (r .start))) in
     r .verdict ≡ verdict.Reached (cycleNumber k) → j ≤ k → lineOf (r .parts) c (r .start) j ≡ line j (map seconds ts)
 unfolding network inParts
-line-shows s c q k j p e h =
-    let is = answer-read s c q programZones programSpace p in
+line-shows s c q capacity size k j p e h =
+    let is = answer-read s c q capacity size p in
     let reached = rw is at e in
-    let limits = reached-in c programZones programSpace k reached in
-    let few-cycles = cycle-few s k e in
-    let r = answer c programZones programSpace in
+    let limits = reached-in c capacity size k reached in
+    let few-cycles = cycle-few s capacity size k e in
+    let r = answer c capacity size in
     let xs = map (λ x. x .0) (take (c .n) (r .start)) in
     let table = inParts (r .parts) (network c) .times in
-    let long = length-cycles (c .n) table j xs (demand2 c programZones programSpace limits .start k reached .1 .size) in
-    rw (is, start-runs c programZones programSpace limits k j reached (omega arith))
+    let long = length-cycles (c .n) table j xs (demand2 c capacity size limits .start k reached .1 .size) in
+    rw (is, start-runs c capacity size limits k j reached (omega arith))
     (ap (line j) (take-at (map seconds (cycles (c .n) table j xs)) _ (c .n) (length-map (cycles (c .n) table j xs) seconds ∙ long)))

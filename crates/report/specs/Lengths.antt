@@ -26,4 +26,4 @@ mostLines = suc mostCycles
 
 -- the buffer, which the heading, the end of its line and the lines fit
 abbrev pub textSize : ℕ
-textSize = 12288
+textSize = 24576

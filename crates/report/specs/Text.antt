@@ -2,11 +2,11 @@
 use Prim.Native.Nat.{ℕ, suc}
 use mathlib.Core.Bool.{cond}
 use mathlib.Core.List.{List, [], _∷_, _++_, map, flatten}
-use lib.Dec.{ltb}
+use lib.Dec.{ltb, leb}
 use lib.ListN.{take}
 use Rattle.puts.specs.Decimal.{number, signedNumber}
 use Rattle.ints.specs.declared.Seconds.{Seconds}
-use Rattle.model.specs.Sizes.{mostDepartures, workspaceSize}
+use Rattle.model.specs.Sizes.{fewDepartures, mostDepartures, workspaceSize}
 use Rattle.model.specs.declared.Case.{Case}
 use Rattle.model.specs.declared.Verdict.{Verdict}
 use Rattle.model.specs.declared.Verdict.the-variants as verdict
@@ -78,13 +78,16 @@ lineCount (verdict.Refused f) = 0
 unfoldable pub answerText : Case → Answer → List ℕ
 answerText c r = (heading (r .verdict) (r .parts) ++ 10 ∷ []) ++ lines (r .parts) c (r .start) (lineCount (r .verdict))
 
--- the program's Z, and its workspace, which is as long as the most departures need
-abbrev pub programZones : ℕ
-programZones = 128
+-- the program's Z for n departures, and its workspace, which is long enough for any n
+abbrev pub fewZones : ℕ
+fewZones = 32
+
+abbrev pub programZones : ℕ → ℕ
+programZones n = cond (leb n fewDepartures) 128 fewZones
 
 abbrev pub programSpace : ℕ
-programSpace = workspaceSize programZones mostDepartures
+programSpace = workspaceSize fewZones mostDepartures
 
 -- what the program prints for these bytes
 unfoldable pub text : List ℕ → List ℕ
-text s = answerText (unpacked (parse s) .case) (answerPacked s programZones programSpace)
+text s = let c = unpacked (parse s) .case in answerText c (answerPacked s (programZones (c .n)) programSpace)

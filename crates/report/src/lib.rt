@@ -1,26 +1,33 @@
 // What a planner sees: the text of the answer to a packed case, put together in a buffer.
-ghost use Rattle.model.specs.Sizes.{mostDepartures};
+ghost use Rattle.model.specs.Sizes.{mostDepartures, mostBytes};
 ghost use mathlib.Core.Path.{_≡_};
-ghost use mathlib.Core.List.{_++_};
-ghost use Prim.Native.Nat.{_+_, _*_, _≤_};
+ghost use mathlib.Core.List.{List, _++_};
+ghost use Prim.Native.Nat.{ℕ, _+_, _*_, _≤_, _<_};
 ghost use lib.ListN.{length, take};
 ghost use Rattle.model.specs.Search.{partsOf};
 ghost use Rattle.model.specs.Faults.{network};
 ghost use Rattle.puts.specs.Written.{PutsWithin};
-ghost use Rattle.report.specs.Text.{fields, line, lines, reachedWord, numbered, ofParts, heading, lineCount, text};
+ghost use Rattle.report.specs.Text.{fields, line, lines, reachedWord, numbered, ofParts, heading, lineCount, programZones, text};
 ghost use Rattle.report.specs.Lengths.{fieldSize, lineSize, wordSize, numberedSize, headingSize, mostLines, textSize};
 use ints::Cycle;
 use ints::Seconds;
+use model::BYTES;
 use model::Case;
 use model::DEPARTURES;
+use model::FEW;
 use model::NUMBERS;
 use model::Verdict;
 
-// Room for the longest text: the heading and the end of its line, and a line for each cycle.
-pub const TEXT: usize = 12288;
+// The most bytes of an input that are read: one more than the longest case has, so that a byte behind it is seen.
+pub const INPUT: usize = BYTES + 1;
 
-// The program's Z, and the numbers of a workspace for the most departures.
-const CAPACITY: usize = 128;
+// Room for the longest text: the heading and the end of its line, and a line for each cycle.
+pub const TEXT: usize = 24576;
+
+// The program's Z for more than a few departures, and for few; the numbers of a workspace for either.
+const CAPACITY: usize = 32;
+
+const CAPACITY_FEW: usize = 128;
 
 const WORKSPACE: usize = 2 * CAPACITY * NUMBERS;
 
@@ -120,18 +127,35 @@ fn line_count(verdict: Verdict) -> usize
     }
 }
 
+// The program's Z for n departures.
+fn capacity_for(n: usize) -> usize
+    ensures { λ r. ⌜ r ≡ programZones n ⌝ }
+{
+    if n <= FEW { CAPACITY_FEW } else { CAPACITY }
+}
+
 // The text of the answer to a packed case. What follows it in the buffer stays as it was.
 pub fn report(bytes: &[u8], out: &mut [u8; TEXT]) -> usize
     ensures { λ r. ⌜ PutsWithin textSize (now (out .entry)) 0 (text (now (bytes .entry))) r (now (out .exit)) ⌝ }
 {
-    let mut work = [0i32; WORKSPACE];
-    let answer = verdict::verdict_packed(bytes, CAPACITY, &mut work);
     let read = packed::read(bytes);
     let case = read.case;
+    let capacity = capacity_for(case.n);
+    let mut work = [0i32; WORKSPACE];
+    let answer = verdict::verdict_packed(bytes, capacity, &mut work);
     let verdict = answer.verdict;
     let start = answer.start;
     let mut next = put_heading(out, verdict, answer.parts);
     next = puts::byte(out, next, b'\n');
     let count = line_count(verdict);
     put_lines(out, next, case, start, count)
+}
+
+// The text of the answer to an input of any length, of which the first bytes were read: all of them, or as many as there is room for.
+pub fn report_input(bytes: &[u8], size: usize, out: &mut [u8; TEXT]) -> usize
+    requires { ⌜ (size ≤ length (now bytes)) × (mostBytes < length (now bytes)) ⌝ }
+    ensures { λ r. ⌜ ((s : List ℕ) → take (length (now (bytes .entry))) s ≡ take size (now (bytes .entry))
+        → PutsWithin textSize (now (out .entry)) 0 (text s) r (now (out .exit))) ⌝ }
+{
+    report(&bytes[..size], out)
 }

@@ -132,7 +132,7 @@ module _ {n parts capacity cycles size : ℕ} {times start target : List ℤ} (q
     none-beyond : someLarge (lists w (suc k)) ≡ false
     none-beyond = let l = q .limits in none-large w (l .table .times-small) (l .target-small) (l .table .departures .few) (suc k) few-cycles
 
-    pub stepping : {seen : List ℤ} → length seen ≡ seenSize → Stepping n parts capacity source goal count work times start seen
+    pub stepping : {seen : List ℤ} → seenSize n ≤ length seen → Stepping n parts capacity source goal count work times start seen
     unfolding lists
     stepping s =
         let l = q .limits in

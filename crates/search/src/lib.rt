@@ -2,12 +2,13 @@
 ghost use mathlib.Core.Path.{_≡_};
 ghost use mathlib.Core.List.{[]};
 ghost use mathlib.Core.Bool.{true};
+ghost use Prim.Native.Nat.{_≤_};
 ghost use lib.ListN.{length, drop};
 ghost use Rattle.model.specs.Sizes.{zoneSize};
 ghost use Rattle.model.specs.Search.{previous};
 ghost use Rattle.model.specs.Answers.{answered, allTimes};
 ghost use Rattle.memory.specs.Numbers.{boundsIn, timesIn};
-ghost use Rattle.lists.specs.Lists.{listIn};
+ghost use Rattle.lists.specs.Lists.{seenSize, listIn};
 ghost use Rattle.search.specs.Searching.{networkIn, Searchable, Stepping, Stepped, pastBy, Searched};
 use ints::Cycle;
 use ints::ZERO;
@@ -104,8 +105,73 @@ fn one_cycle(
     }
 }
 
+// A search: Z, n, what a start is in, how many cycles are searched, what getting past them means.
+struct Task {
+    capacity: usize,
+    n: usize,
+    parts: usize,
+    cycles: Cycle,
+    end: End,
+}
+
+// The answer of a search, with a table for the sets met.
+fn search_with(
+    work: &mut [i32],
+    times: &[i32],
+    start: &[i32],
+    target: &[i32],
+    seen: &mut [i32],
+    task: Task,
+) -> Answer
+    requires { ⌜
+        Searchable (task .n) (task .parts) (task .capacity) (task .cycles .0) (length (now work)) (now times) (now start) (now target)
+        × (seenSize (task .n) ≤ length (now seen))
+        ⌝ }
+    ensures { λ r. ⌜
+        Searched (networkIn (task .n) (task .cycles .0) (now (times .entry)) (now (start .entry)) (now (target .entry)))
+        (task .capacity) (task .cycles .0) (task .end) r
+        ⌝ }
+{
+    let capacity = task.capacity;
+    let n = task.n;
+    let parts = task.parts;
+    let cycles = task.cycles;
+    let last = cycles.0;
+    let end = task.end;
+    let half = capacity * memory::zone_size(n);
+    let mut count = lists::first_list(work, target, n);
+    let mut source = 0;
+    let mut k = 0;
+    while k < last && count > 0 {
+        let goal = half - source;
+        k += 1;
+        let next = one_cycle(
+            work,
+            source,
+            goal,
+            count,
+            capacity,
+            times,
+            start,
+            seen,
+            n,
+            parts,
+            Cycle(k),
+        );
+        if next.ended {
+            return next.answer;
+        }
+        count = next.count;
+        source = goal;
+    }
+    if count == 0 {
+        return plain(Verdict::Never);
+    }
+    past(end)
+}
+
 // The answer of a search over so many cycles; parts is what a start is in, end what getting past the cycles means. What the workspace holds afterwards
-// is free.
+// is free. All of the table for the sets met is cleared, so it is made no longer than such a network asks for.
 pub fn search(
     work: &mut [i32],
     capacity: usize,
@@ -122,36 +188,21 @@ pub fn search(
         Searched (networkIn n (cycles .0) (now (times .entry)) (now (start .entry)) (now (target .entry))) capacity (cycles .0) end r
         ⌝ }
 {
-    let last = cycles.0;
-    let half = capacity * memory::zone_size(n);
-    let mut count = lists::first_list(work, target, n);
-    let mut seen = [0i32; lists::SEEN];
-    let mut source = 0;
-    let mut k = 0;
-    while k < last && count > 0 {
-        let goal = half - source;
-        k += 1;
-        let next = one_cycle(
-            work,
-            source,
-            goal,
-            count,
-            capacity,
-            times,
-            start,
-            &mut seen,
-            n,
-            parts,
-            Cycle(k),
-        );
-        if next.ended {
-            return next.answer;
-        }
-        count = next.count;
-        source = goal;
+    let task = Task {
+        capacity,
+        n,
+        parts,
+        cycles,
+        end,
+    };
+    if n <= lists::SMALL {
+        let mut seen = [0i32; lists::SMALL_SEEN];
+        return search_with(work, times, start, target, &mut seen, task);
     }
-    if count == 0 {
-        return plain(Verdict::Never);
+    if n <= lists::MIDDLE {
+        let mut seen = [0i32; lists::MIDDLE_SEEN];
+        return search_with(work, times, start, target, &mut seen, task);
     }
-    past(end)
+    let mut seen = [0i32; lists::LARGE_SEEN];
+    search_with(work, times, start, target, &mut seen, task)
 }

@@ -45,7 +45,7 @@ module _ (z : List ℤ) where
 
   -- where constraints can be taken in, there is a zone
   pub zone-of : {n L : ℕ} {ks : List Constraint} → Takes n L (boundsIn z) ks → ZoneIn n z
-  zone-of t = record { departures = t .departures; size = sym bounds-size ∙ t .closed .size }
+  zone-of t = record { few = t .few; size = sym bounds-size ∙ t .closed .size }
 
   pub bound-there : (k : ℕ) {r : Number} → k < length z → SFits w64 (getD z k (pos 0))
       → ReadWithin Largest (boundIn (toZ w64 (ofZ w64 (getD z k (pos 0))))) r → ReadWithin Largest (getD (boundsIn z) k B.Bound.none) r

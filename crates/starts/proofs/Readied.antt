@@ -28,7 +28,7 @@ use Rattle.starts.specs.Conditions.{AllReady, BoundsReady, startOf, Star
 pub all-ready : {n : ℕ} {bounds : List ℤ} (z : List ℤ) → BoundsReady n bounds → boundsIn z ≡ everything (suc n) → AllReady n z bounds
 all-ready {n} {bounds} z r e = record {
   taking = record {
-    departures = r .source .departures;
+    few = r .source .few;
     closed = rw e (everything-closed (suc n));
     fits = bounds-fit (suc n) (boundsIn bounds);
     fitting = rw e (r .fitting);
@@ -67,7 +67,7 @@ module _ {n : ℕ} {zone : List ℤ} {parts : ℕ} (r : StartReady n zone parts)
   room : n * most-size ≤ Stored
   room =
       let b : most-size ≤ InMemory * suc mostDepartures + 1 = omega (arith, mul-le-mul-left InMemory (r .few-parts)) in
-      let m : n * most-size ≤ mostDepartures * (InMemory * suc mostDepartures + 1) = mul-le-mul (r .source .departures .few) b in
+      let m : n * most-size ≤ mostDepartures * (InMemory * suc mostDepartures + 1) = mul-le-mul (r .departures .few) b in
       omega arith
 
   inParts-small : Bounded (suc n) most-size (map whole (map (scale parts) z))
@@ -78,6 +78,7 @@ module _ {n : ℕ} {zone : List ℤ} {parts : ℕ} (r : StartReady n zone parts)
   pub bounds-ready : ZoneIn n bounds → BoundsReady n bounds
   unfolding wholes tighten
   bounds-ready source = record {
+    departures = r .departures;
     source = source;
     times = record { zone = r .left; is = rw e (r .some-left) };
     fitting = rw e (made-fitting room (made-everything n most-size) (bounds-fit (suc n) _) (bounds-small (suc n) _ inParts-small));

@@ -10,7 +10,7 @@ use Rattle.model.specs.Lists.{tabulate}
 use Rattle.model.specs.Bound.{Bound, scale, whole}
 use Rattle.model.specs.Matrix.{Matrix, entry, everything, Constraint, tighten}
 use Rattle.model.specs.Search.{boundsOf, pick, wholes}
-use Rattle.model.specs.Conditions.{Bounded, Fitting}
+use Rattle.model.specs.Conditions.{Departures, Bounded, Fitting}
 use Rattle.memory.specs.Conditions.{ZoneIn}
 use Rattle.memory.specs.Matrices.{Relaxable, leaves, SomeLeft, limited, Takes, TakesOne}
 use Rattle.memory.specs.Numbers as Memory
@@ -57,6 +57,7 @@ startOf n d = elim (tighten (suc n) (boundsOf (suc n) d)) [ some e ↦ pick n e 
 
 -- the bounds leave some times, and no set on the way has a finite bound beyond Stored
 pub record BoundsReady (n : ℕ) (bounds : List ℤ) : Type 0 where
+  pub departures : Departures n
   pub source : ZoneIn n bounds
   pub times : SomeLeft n (everything (suc n)) (boundsOf (suc n) (boundsIn bounds))
   pub fitting : Fitting (suc n) Stored (some (everything (suc n))) (boundsOf (suc n) (boundsIn bounds))
@@ -68,6 +69,7 @@ pub record PartsOf (zone : List ℤ) (parts : ℕ) (r : List ℤ) : Type 0 where
 
 -- a start can be picked in the zone in so many parts: it has one, and its bounds are no larger than numbers in memory are
 pub record StartReady (n : ℕ) (zone : List ℤ) (parts : ℕ) : Type 0 where
+  pub departures : Departures n
   pub source : ZoneIn n zone
   pub few-parts : parts ≤ suc mostDepartures
   pub small : Bounded (suc n) InMemory (Memory.boundsIn zone)

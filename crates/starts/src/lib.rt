@@ -168,7 +168,7 @@ fn all_times(n: usize) -> [i64; NUMBERS]
 
 // The tightest bounds, at the front of an array.
 fn tightened(zone: [i64; NUMBERS], bounds: &[i64], n: usize) -> [i64; NUMBERS]
-    requires { ⌜ AllReady n (take (zoneSize n) zone) (now bounds) × (length zone ≡ mostNumbers) ⌝ }
+    requires { ⌜ Departures n × AllReady n (take (zoneSize n) zone) (now bounds) × (length zone ≡ mostNumbers) ⌝ }
     ensures { λ r. ⌜ Tightened n zone (now (bounds .entry)) r ⌝ }
 {
     let size = zone_size(n);
@@ -233,7 +233,7 @@ fn next_time(zone: &[i64], n: usize, times: [Seconds; DEPARTURES], t: usize) -> 
 
 // The start picked in the zone: each departure in turn, given those before it.
 fn pick(zone: &[i64], n: usize) -> [Seconds; DEPARTURES]
-    requires { ⌜ ZoneIn n (now zone) ⌝ }
+    requires { ⌜ Departures n × ZoneIn n (now zone) ⌝ }
     ensures { λ r. ⌜ r ≡ allTimes (pick n (boundsIn (now (zone .entry)))) ⌝ }
 {
     let mut times = [ZERO; DEPARTURES];

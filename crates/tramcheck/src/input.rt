@@ -4,9 +4,6 @@ ghost use lib.ListN.{length};
 ghost use Rattle.io.specs.Counts.{Counts};
 use crate::waiting::call_again;
 
-// One byte more than the longest case has: enough to tell that a byte follows it.
-pub const MOST: usize = 427;
-
 // How many bytes were read, whether there may be more, and whether a read failed.
 pub struct Input {
     pub size: usize,

@@ -174,24 +174,35 @@ pub(crate) fn packed_answer(packed: Packed, capacity: usize, room: usize) {
     io::write_all(1, b"\n");
 }
 
-// The rest of a line for a case in both forms.
-pub(crate) fn both_answers(case: Case, capacity: usize, room: usize) {
-    io::write_all(1, b": ");
-    let unpacked = plain(case, capacity, room);
-    write_outcome(unpacked);
-    let written = packing::pack(case);
+// What the packed form of a case gives, beside the unpacked one.
+fn compared(form: &[u8], written: Packed, unpacked: Outcome, capacity: usize, room: usize) {
+    io::write_all(1, form);
     if written.length == 0 {
-        io::write_all(1, b"; not packed\n");
+        io::write_all(1, b"refused");
         return;
     }
     let packed = packed_form(written, capacity, room);
     if same(unpacked, packed) {
-        io::write_all(1, b"; packed the same\n");
+        io::write_all(1, b"the same");
     } else {
-        io::write_all(1, b"; packed ");
         write_outcome(packed);
-        io::write_all(1, b"\n");
     }
+}
+
+// The rest of a line for a case, unpacked and in both forms.
+pub(crate) fn both_answers(case: Case, capacity: usize, room: usize) {
+    io::write_all(1, b": ");
+    let unpacked = plain(case, capacity, room);
+    write_outcome(unpacked);
+    compared(b"; packed ", packing::pack(case), unpacked, capacity, room);
+    compared(
+        b"; wide ",
+        packing::pack_wide(case),
+        unpacked,
+        capacity,
+        room,
+    );
+    io::write_all(1, b"\n");
 }
 
 // A line for a case in both forms.

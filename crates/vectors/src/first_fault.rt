@@ -20,7 +20,7 @@ fn numbers(n: usize, horizon: usize, time: i64) {
 // 2 and 3; 3 and 4; 3 and 5.
 fn before_times() {
     numbers(0, 0, 0);
-    numbers(8, 65, 0);
+    numbers(16, 65, 0);
     numbers(1, 65, 86401);
     numbers(1, 0, BLANK);
 }

@@ -16,7 +16,6 @@ use ints::Seconds;
 use model::BOUNDS;
 use model::CYCLES;
 use model::Case;
-use model::DEPARTURES;
 use model::Limit;
 use model::NOTHING;
 use model::Slot;
@@ -108,7 +107,7 @@ fn seven() {
 // Every time 86400 and every bound the same.
 fn longest(bound: i64) -> Case {
     case_of(
-        DEPARTURES,
+        7,
         CYCLES,
         [slot(86400); BOUNDS],
         [cases::limit(bound); BOUNDS],
@@ -132,7 +131,7 @@ fn longest_packed() -> Packed {
     packing::pack(longest(1000000))
 }
 
-// The longest case: 3404 bits, 426 bytes. No call searches it: Z is 0, the workspace is too short, or it is damaged.
+// The longest case in document 01's form: 3404 bits, 426 bytes. No call searches it: Z is 0, the workspace is too short, or it is damaged.
 fn longest_lines() {
     longest_text(1000000, 0, 16384);
     both_answers(longest(1000000), 0, 16384);
@@ -156,7 +155,7 @@ pub(crate) fn show() {
     three();
     io::write_all(1, b"\nSeven departures\n");
     seven();
-    io::write_all(1, b"\nThe longest packed case\n");
+    io::write_all(1, b"\nThe longest case in document 01's form\n");
     longest_lines();
     longest_damaged();
 }

@@ -102,7 +102,7 @@ fn numbers() {
     no_horizon(65);
     no_horizon(0);
     departures(0);
-    departures(8);
+    departures(16);
     departures(18446744073709551615);
 }
 
@@ -150,7 +150,7 @@ pub(crate) fn show() {
     upper_bounds();
     lower_bounds();
     target_bounds();
-    io::write_all(1, b"\nN from 1 to 64, n from 1 to 7\n");
+    io::write_all(1, b"\nN from 1 to 64, n from 1 to 15\n");
     numbers();
     io::write_all(1, b"\nZ from 1 to 4096, and the workspace\n");
     workspaces();

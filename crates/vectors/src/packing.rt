@@ -1,9 +1,9 @@
-// Packed cases: written by the library's writer, or given byte by byte.
+// Packed cases: written by the library's writers, or given byte by byte.
 use model::Case;
 use model::Written;
 
-// More than the 426 bytes of the longest case.
-pub const SIZE: usize = 432;
+// More than the 1916 bytes of the longest case.
+pub const SIZE: usize = 1920;
 
 // The first bytes are the case; there are none where the writer refuses it.
 pub struct Packed {
@@ -11,13 +11,26 @@ pub struct Packed {
     pub length: usize,
 }
 
-// The packed form of a case.
-pub(crate) fn pack(case: Case) -> Packed {
-    let mut bytes = [0u8; SIZE];
-    match packer::write(case, &mut bytes) {
+// The bytes, by what the writer answered.
+fn written_to(answer: Written, bytes: [u8; SIZE]) -> Packed {
+    match answer {
         Written::Bytes(length) => Packed { bytes, length },
         Written::Refused(_) => Packed { bytes, length: 0 },
     }
+}
+
+// A case in document 01's form.
+pub(crate) fn pack(case: Case) -> Packed {
+    let mut bytes = [0u8; SIZE];
+    let answer = packer::write(case, &mut bytes);
+    written_to(answer, bytes)
+}
+
+// A case in the wide form.
+pub(crate) fn pack_wide(case: Case) -> Packed {
+    let mut bytes = [0u8; SIZE];
+    let answer = packer::write_wide(case, &mut bytes);
+    written_to(answer, bytes)
 }
 
 // What the writer says of a case and an output of so many bytes.

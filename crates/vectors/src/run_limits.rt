@@ -63,7 +63,7 @@ fn departures(n: usize, cycle: usize) {
 // Two faults: the first in the order 2, 3, 4 and 5, 13 is named.
 fn faults() {
     departures(0, 1);
-    departures(8, 1);
+    departures(16, 1);
     departures(0, 65);
     faulty(2, 5, 86401, 3, 0, 1);
     faulty(2, 5, 86401, 3, 0, 65);

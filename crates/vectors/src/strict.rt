@@ -12,7 +12,6 @@ use crate::cases::two;
 use crate::timetable::from2;
 use crate::timetable::parts_line;
 use model::BOUNDS;
-use model::DEPARTURES;
 use model::Limit;
 use model::NOTHING;
 use model::Slot;
@@ -106,7 +105,7 @@ fn ordered() -> [Limit; BOUNDS] {
 fn picked() {
     tightened();
     example(one(1, cases::o(), cases::between(any(), 1, 1, 0, 0, 1), any()));
-    example(case_of(DEPARTURES, 1, apart(), any(), ordered()));
+    example(case_of(7, 1, apart(), any(), ordered()));
 }
 
 // A = 0, a strict bound on x1 in the start.

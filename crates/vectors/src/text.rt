@@ -23,7 +23,7 @@ pub(crate) fn opposite(time: Seconds) {
     size(time, time.0 > 0);
 }
 
-// All seven times.
+// All times.
 pub(crate) fn times(values: [Seconds; DEPARTURES]) {
     for i in 0..DEPARTURES {
         let time = values[i];

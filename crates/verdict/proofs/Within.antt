@@ -3,7 +3,7 @@ use Prim.Native.Nat.{ℕ, _≤_}
 use native.Mathlib.Omega.{arith}
 use mathlib.Core.Path.{_≡_, refl, ap, _∙_}
 use mathlib.Core.Bool.{Bool, _||_}
-use mathlib.Core.List.{List, [], map}
+use mathlib.Core.List.{List, map}
 use mathlib.Core.Option.{some}
 use lib.IntN.{ℤ}
 use lib.ListN.{length, take}
@@ -11,16 +11,16 @@ use lib.Seq.{length-take-le}
 use Rattle.model.specs.declared.Case.{Case}
 use Rattle.model.specs.declared.Answer.{Answer}
 use Rattle.model.specs.declared.Limit.{Limit}
-use Rattle.model.specs.Sizes.{mostCycles, boundLimit, tableSize, patternSize, mostBounds}
+use Rattle.model.specs.Sizes.{boundLimit, tableSize, patternSize, mostBounds}
 use Rattle.model.specs.Pattern.{onlyDifferences}
-use Rattle.model.specs.Network.{Network, Repeat, repeatOf, firstRepeat, powersFrom}
+use Rattle.model.specs.Network.{Network, Repeat, repeatOf}
 use Rattle.model.specs.Search as S
 use Rattle.model.specs.Search.{plan, planWith, lists, outcome}
 use Rattle.model.specs.Answers.{answered}
 use Rattle.model.specs.Faults.{network, callFault, caseFault, tableFault, patternsFault, tableOf, boundOf, stated}
 use Rattle.model.specs.Demands.{InLimits}
 use Rattle.model.specs.Lists.{Every}
-use Rattle.model.specs.Conditions.{Departures, TableLimits, InLimit}
+use Rattle.model.specs.Conditions.{Departures, InLimit}
 use Rattle.model.proofs.Listed.{every-map}
 use Rattle.model.proofs.Limits.{wider-limit, no-fault, rows-in, limits-of, room-of}
 use Rattle.model.proofs.Places.{table-fits, pattern-fits}
@@ -32,8 +32,7 @@ use Rattle.memory.specs.Conditions.{TableIn, PatternIn}
 use Rattle.judge.specs.Judgement.{startParts}
 use Rattle.judge.proofs.Laws.{parts-are}
 use Rattle.powers.specs.declared.Repeated.{Repeated}
-use Rattle.powers.specs.Readings.{repeatRead}
-use Rattle.powers.proofs.Places.{of-case}
+use Rattle.powers.specs.Readings.{repeatRead, repeatIn, TableReady}
 use Rattle.search.specs.Searching.{networkIn, Searchable, Searched}
 use Rattle.verdict.specs.declared.Plan.{Plan}
 use Rattle.verdict.specs.Planning.{Planned}
@@ -74,15 +73,11 @@ module _ (c : Case) (capacity size : ℕ) (h : InLimits c capacity size) where
 
   pub start-in-limit : Every (λ e. InLimit boundLimit (stated e)) (take (patternSize (c .n)) (c .start))
   unfolding callFault caseFault patternsFault
-  start-in-limit = let facts = simp no-fault at h in every-map (λ e b. b .0) (facts .0 .1 .0)
+  start-in-limit = let facts = simp no-fault at h in facts .0 .1 .0
 
   pub target-in-limit : Every (λ e. InLimit boundLimit (stated e)) (take (patternSize (c .n)) (c .target))
   unfolding callFault caseFault patternsFault
-  target-in-limit = let facts = simp no-fault at h in every-map (λ e b. b .0) (facts .0 .1 .1)
-
-  pub powers-ready : TableLimits (c .n) (tableOf (c .n) (c .times))
-  unfolding network
-  powers-ready = limits-of c capacity size h .table
+  target-in-limit = let facts = simp no-fault at h in facts .0 .1 .1
 
   pub counted : (again : Repeat) → repeatOf (network c) ≡ some again → 1 ≤ again .q
   counted again e = let r = repeat-sound (network c) e in omega (arith, r .q-is)
@@ -114,13 +109,22 @@ module _ (c : Case) (capacity size : ℕ) (h : InLimits c capacity size) where
           long = long;
         }
 
+    -- so can its powers, and what is found in them is the definition's first repeated power
+    pub powers-ready : TableReady (c .n) table
+    unfolding network
+    powers-ready = record { table = in-table departures times (e .times-in .1); limits = rw (e .times-in .0) (limits-of c capacity size h .table) }
+
+    pub repeat-is : repeatIn (c .n) table ≡ repeatOf (network c)
+    unfolding repeatOf network
+    repeat-is = rw (e .times-in .0)
+
     -- the searched horizon is that of the definition
     pub planned : (rep : Repeated) (free : Bool) {p : Plan}
-        → repeatRead rep ≡ firstRepeat 1 [] (powersFrom mostCycles (c .n) (tableOf (c .n) (c .times)) (tableOf (c .n) (c .times)))
+        → repeatRead rep ≡ repeatOf (network c)
         → free ≡ (onlyDifferences (c .n) (boundsIn from) || onlyDifferences (c .n) (boundsIn to))
         → Planned (planWith (c .horizon .0) (repeatRead rep) free) p → Planned (plan (network c)) p
     unfolding plan network
-    planned rep free r f p = let r′ = r ∙ of-case c in rw (r′, f, e .start-in .0, e .target-in .0) at p
+    planned rep free r f p = rw (r, f, e .start-in .0, e .target-in .0) at p
 
     -- and what the search over it answers is the outcome
     pub found : {p : Plan} {r : Answer} → Planned (plan (network c)) p

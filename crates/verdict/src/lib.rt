@@ -89,7 +89,7 @@ fn searched(case: Case, capacity: usize, work: &mut [i32]) -> Answer
     let start = &start[..size];
     let target = &target[..size];
     let free = differences(start, target, n);
-    let repeated = powers::first_repeat(table, n);
+    let repeated = powers::first_repeat(times, n);
     let plan = plan_of(repeated, free, case.horizon);
     let cycles = plan.cycles;
     let end = plan.end;

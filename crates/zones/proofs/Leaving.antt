@@ -1,5 +1,5 @@
 -- What an answer tells of the zone that is left.
-use Prim.Native.Nat.{ℕ, suc}
+use Prim.Native.Nat.{ℕ, suc, _≤_}
 use mathlib.Core.Path.{_≡_, refl, sym, ap, _∙_}
 use mathlib.Core.List.{List, []}
 use mathlib.Core.Option.{Option, none, some}
@@ -7,8 +7,9 @@ use mathlib.Core.Bool.{Bool, true, false, not}
 use borrow.Author.Tests.{not-true, not-false}
 use lib.IntN.{ℤ}
 use Rattle.ints.proofs.Integers.{impossible}
+use Rattle.model.specs.Sizes.{mostTimesAtOnce}
 use Rattle.model.specs.Matrix.{Matrix, Constraint}
-use Rattle.model.specs.Conditions.{Departures, Closed}
+use Rattle.model.specs.Conditions.{Closed}
 use Rattle.memory.specs.Numbers.{boundsIn}
 use Rattle.memory.specs.Conditions.{ZoneIn}
 use Rattle.memory.specs.Matrices.{leaves, Takes}
@@ -32,11 +33,11 @@ pub is-kept : {o : Option Matrix} {z : List ℤ} → o ≡ some (boundsIn z) →
 is-kept e = rw e (kept refl)
 
 -- a closed matrix in memory is a zone
-pub closed-in : {n : ℕ} (z : List ℤ) → Departures n → Closed (suc n) (boundsIn z) → ClosedIn n z
-closed-in z d c = record { zone = record { departures = d; size = sym (bounds-size z) ∙ c .size }; closed = c }
+pub closed-in : {n : ℕ} (z : List ℤ) → n ≤ mostTimesAtOnce → Closed (suc n) (boundsIn z) → ClosedIn n z
+closed-in z few c = record { zone = record { few = few; size = sym (bounds-size z) ∙ c .size }; closed = c }
 
 pub zone-of : {n L : ℕ} {ks : List Constraint} (z : List ℤ) → Takes n L (boundsIn z) ks → ZoneIn n z
-zone-of z t = closed-in z (t .departures) (t .closed) .zone
+zone-of z t = closed-in z (t .few) (t .closed) .zone
 
 -- ---- constraints in turn, by the answers
 module _ {n L : ℕ} {d₀ : Matrix} {ms : List Constraint} {d : Matrix} where

@@ -1,5 +1,5 @@
 -- What the functions inside this crate require and ensure.
-use Prim.Native.Nat.{ℕ, suc, _+_, _*_, _≤_, _<_}
+use Prim.Native.Nat.{ℕ, suc, _+_, _≤_, _<_}
 use mathlib.Core.Path.{_≡_}
 use mathlib.Core.List.{List, [], _∷_, flatten}
 use lib.IntN.{ℤ, natAbs}
@@ -14,12 +14,9 @@ use Rattle.model.specs.Search.{chosen, attains, keeps}
 use Rattle.model.specs.Conditions.{Chosen, Cols}
 use Rattle.memory.specs.Numbers.{boundsIn, timesIn, Limit, InMemory}
 use Rattle.memory.specs.Conditions.{ZoneIn, TableIn, PatternIn}
-use Rattle.memory.specs.Matrices.{RowFilled, Relaxable, Takes, TakesOne}
+use Rattle.memory.specs.Matrices.{RowFilled, Relaxable, Takes}
 use Rattle.zones.specs.declared.Choice.{Choice}
-
--- the most that a limit is in size: a bound and two times, each a number in memory
-abbrev pub LimitMost : ℕ
-LimitMost = 3 * InMemory
+use Rattle.zones.specs.Conditions.{LimitMost}
 
 -- ---- the conditions on matrices, of a zone in memory
 -- row i of z′ is f, and all else is as in z
@@ -30,12 +27,9 @@ RowMade n z z′ f i = RowFilled n (boundsIn z) (boundsIn z′) f i (suc n)
 abbrev pub RelaxReady : ℕ → List ℤ → ℕ → ℕ → Bound → Type 0
 RelaxReady n z i b way = Relaxable n Limit (InMemory + LimitMost) z (boundsIn z) i b way
 
--- z can take in the constraints ks, and one with the limit c
+-- z can take in the constraints ks
 abbrev pub Taking : ℕ → List ℤ → List Constraint → Type 0
 Taking n z ks = Takes n Limit (boundsIn z) ks
-
-abbrev pub TakingOne : ℕ → List ℤ → ℕ → ℕ → Bound → Type 0
-TakingOne n z a b c = TakesOne n Limit LimitMost (boundsIn z) a b c
 
 -- ---- constraints
 -- that the image keeps to d in two rows, with the columns chosen: one way, and both ways

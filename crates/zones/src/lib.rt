@@ -7,8 +7,8 @@ ghost use Rattle.model.specs.Search.{attains, rowConstraints};
 ghost use Rattle.memory.specs.Numbers.{ofHalves, boundsIn, timesIn, asBound};
 ghost use Rattle.memory.specs.Conditions.{ZoneIn};
 ghost use Rattle.memory.specs.Matrices.{across, limited};
-ghost use Rattle.zones.specs.Conditions.{Taken, RowReady, CommonReady};
-ghost use Rattle.zones.specs.Inner.{RowMade, RelaxReady, TakingOne, Adds, Added, keepOne, keepBoth, images, pairRow};
+ghost use Rattle.zones.specs.Conditions.{Taken, TakingOne, RowReady, CommonReady};
+ghost use Rattle.zones.specs.Inner.{RowMade, RelaxReady, Adds, Added, keepOne, keepBoth, images, pairRow};
 ghost use Rattle.zones.specs.Inner.{AttainReady, KeepReady, ImagesReady, PairRowReady};
 use ints::Seconds;
 use ints::ZERO;
@@ -75,8 +75,8 @@ fn constrain(zone: &mut [i32], n: usize, a: usize, b: usize, c: Halves) -> bool
     true
 }
 
-// The same, with a limit that may be blank. What the zone implies already changes nothing.
-fn take_in(zone: &mut [i32], n: usize, a: usize, b: usize, limit: Number) -> bool
+// The same, with a limit that may be blank. What the zone implies already changes nothing. The zone may be of two times for each departure.
+pub fn take_in(zone: &mut [i32], n: usize, a: usize, b: usize, limit: Number) -> bool
     requires { ⌜ TakingOne n (now zone) a b (asBound limit) ⌝ }
     ensures { λ r. ⌜ Taken n (now (zone .entry)) (limited a b (asBound limit)) r (now (zone .exit)) ⌝ }
 {

@@ -3,16 +3,16 @@ use borrow.Author.Needs.{needs}
 use Prim.Native.Nat.{_-_}
 use native.Mathlib.Omega.{arith}
 use lib.ListN.{take, getD}
-use Rattle.model.specs.Faults.{nothing, unmarked, boundFault}
+use Rattle.model.specs.Faults.{nothing, unmarked, boundFaultIn}
 use Rattle.judge.proofs.Laws.{Passed, walk-array, passed-none, passed-more, passed-refused, passed-accepted, refused-for, accepted}
 use Rattle.judge.proofs.bounds_fault.Statement.{statement}
 use Rattle.judge.proofs.bounds_fault.Tie as tie
 
 abbrev Inv-loop : tie.InvT-loop
-Inv-loop count offset marks bounds i₀ i = Passed (boundFault marks) offset (take count bounds) count (λ j. getD bounds j (unmarked nothing)) i
+Inv-loop count offset form bounds i₀ i = Passed (boundFaultIn form) offset (take count bounds) count (λ j. getD bounds j (unmarked nothing)) i
 
 abbrev μ-loop : tie.MeasureT-loop
-μ-loop count offset marks bounds i₀ i = count - i
+μ-loop count offset form bounds i₀ i = count - i
 
 returns : tie.Need-returns Inv-loop μ-loop
 returns c =

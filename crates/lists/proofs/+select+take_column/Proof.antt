@@ -100,7 +100,7 @@ module _ (t : ℕ) where
       let i = k .before .before .before .before .before in
       let l = i .before in
       going-on (l .before .before .before .before .pre .1) (l .loop .inv) (i .loop-test .taken) (k .take-column .ensures) (e .if1 .left)
-      (k .take-column .kept .0) (k .take-column .kept .1 .1 .1 .1 .1 .1 .1 .0) (c .next-column2 .ensures)
+      (k .take-column .kept .0) (k .take-column .kept .1 .1 .1 .1 .1 .0) (k .take-column .kept .1 .1 .1 .1 .1 .1 .1 .0) (c .next-column2 .ensures)
 
   returns-2 : select-lts.Need-returns-2 (row-claims t) (select-at t) select.Post Inv μ
   returns-2 c =

@@ -5,7 +5,7 @@ use mathlib.Core.Path.{_≡_}
 use Prim.Native.Nat.{_+_, _*_, _-_, _≤_}
 use lib.ListN.{length}
 use Rattle.model.specs.Sizes.{zoneSize}
-use Rattle.lists.specs.Lists.{seenSize, zoneAt, listIn}
+use Rattle.lists.specs.Lists.{zoneAt, listIn}
 use Rattle.lists.specs.Met.{freeAt}
 use Rattle.lists.proofs.places.Zones.{length-numbers, lent-at}
 use Rattle.lists.proofs.met.Seen.{placed-none, placed-some}
@@ -31,21 +31,20 @@ free-requires c κs = search needs
 -- its place lies in the table
 inside : (c : tie.After-free) →
     let g = c .before .before .before .before in
-    let end = c .free .result * c .before .zone-size .result + c .before .zone-size .result in
-    (end ≤ length (g .grow .last .0)) × (end ≤ seenSize)
+    c .free .result * c .before .zone-size .result + c .before .zone-size .result ≤ length (g .grow .last .0)
 inside c =
     let g = c .before .before .before .before in
     let u = g .before .before .before .before .pre .0 .ready in
-    rw (c .before .zone-size .ensures, c .free .ensures, g .grow .kept .0) (here-fits u, omega (arith, here-fits u, u .tables .seen-size))
+    rw (c .before .zone-size .ensures, c .free .ensures, g .grow .kept .0) (here-fits u)
 
 mul-base : tie.Need-mul-base
-mul-base c = omega (arith, inside c .1)
+mul-base c = omega (arith, inside c)
 
 add-end : tie.Need-add-end
-add-end c = omega (arith, inside c .1)
+add-end c = omega (arith, inside c)
 
 mul-has : tie.Need-mul-has
-mul-has c = omega (arith, inside c .1)
+mul-has c = omega (arith, inside c)
 
 sub-has : tie.Need-sub-has
 sub-has c = search needs
@@ -54,7 +53,7 @@ part-has-start : tie.Need-part-has-start
 part-has-start c = search needs
 
 part-has-end : tie.Need-part-has-end
-part-has-end c = inside (c .before) .0
+part-has-end c = inside (c .before)
 
 has-requires : tie.Need-has-requires
 has-requires c κs =
@@ -62,7 +61,7 @@ has-requires c κs =
     let z = f .before in
     let g = z .before .before .before in
     let b = g .before .before .before .before in
-    let long = length-numbers (z .zone-size .result) (g .grow .last .0) (f .free .result) (inside f .0) in
+    let long = length-numbers (z .zone-size .result) (g .grow .last .0) (f .free .result) (inside f) in
     (rw (lent-at (z .zone-size .result) (f .free .result) (g .grow .last .0)) long, omega arith, rw (z .zone-size .ensures) (b .pre .1))
 
 same-length-2 : tie.Need-same-length-2
@@ -77,7 +76,7 @@ returns-2 c =
     let g = e .before .before in
     let a = g .before .before .before .before .args in
     let all : a .count - 0 ≡ a .count = omega arith in
-    let lent = lent-at (zoneSize (a .n)) (freeAt (a .counts .now) (a .n)) (g .grow .last .0) in
+    let lent = lent-at (zoneSize (a .n)) (freeAt (a .n) (a .counts .now) (a .n)) (g .grow .last .0) in
     placed-some _ (g .grow .ensures) (e .if1 .left) (c .has .result) (rw (z .zone-size .ensures, f .free .ensures, lent, all) at (c .has .ensures))
 
 pub beside-spec : {M : Type 1} → statement M

@@ -27,7 +27,7 @@ departures : (c : tie.Start Inv-loop μ-loop) → Departures (c .args .n)
 departures c = c .pre .meets .limits .departures
 
 zone-size-requires : tie.Need-zone-size-requires Inv-loop μ-loop
-zone-size-requires c κs = departures c .few
+zone-size-requires c κs = omega (arith, departures c .few)
 
 loop-holds : tie.Need-loop-holds Inv-loop μ-loop
 loop-holds c =

@@ -77,7 +77,7 @@ module _ (n : ℕ) (a : List Time) (d : Matrix) {p : Matrix} {i : ℕ} where
   covered-again c b = rw (same-extensions b (c .before) (suc n - i)) (put-again (c .listed))
 
 -- ---- one set more is counted in row i
-module _ {counts : List ℕ} (few : Counts counts) {i : ℕ} (row : i ≤ mostDepartures) where
+module _ {n : ℕ} {counts : List ℕ} (few : Counts n counts) {i : ℕ} (row : i ≤ mostDepartures) where
   abbrev count : ℕ
   count = getD counts i 0
 
@@ -87,7 +87,7 @@ module _ {counts : List ℕ} (few : Counts counts) {i : ℕ} (row : i ≤ mostDe
   count-here : getD counted i 0 ≡ count + 1
   count-here = getD-set-same counts i (count + 1) 0 (omega (arith, few .size))
 
-  counted-few : count < setsMet → Counts counted
+  counted-few : count < setsMet n → Counts n counted
   counted-few more = record {
     size = length-set counts i (count + 1) ∙ few .size;
     few = λ j. elim (ℕ-discrete j i) [
@@ -108,17 +108,17 @@ module _ {n : ℕ} {times zone : List ℤ} {kept : List Matrix} {seen : List ℤ
   }
 
   -- a set is built at a free place
-  pub noted-placed : (i : ℕ) {seen′ : List ℤ} → Elsewhere (zoneSize n) (freeAt counts i) seen seen′ → length seen′ ≡ length seen
+  pub noted-placed : (i : ℕ) {seen′ : List ℤ} → Elsewhere (zoneSize n) (freeAt n counts i) seen seen′ → length seen′ ≡ length seen
       → Noted n times zone kept seen′ counts
   noted-placed i e long = record {
-    tables = record { seen-size = long ∙ w .tables .seen-size; counted = w .tables .counted };
-    covered = λ j c h. rw (other-same e (j * placesMet + c) (free-other (w .tables) i j c h)) (w .covered j c h);
+    tables = record { seen-size = omega (arith, w .tables .seen-size); counted = w .tables .counted };
+    covered = λ j c h. rw (other-same e (j * placesMet n + c) (free-other (w .tables) i j c h)) (w .covered j c h);
   }
 
   -- and noted
-  module _ {i : ℕ} (row : i ≤ mostDepartures) (v : Covered n (timesIn times) (boundsIn zone) kept (suc i) (zoneAt (zoneSize n) seen (freeAt counts i))) where
+  module _ {i : ℕ} (row : i ≤ mostDepartures) (v : Covered n (timesIn times) (boundsIn zone) kept (suc i) (zoneAt (zoneSize n) seen (freeAt n counts i))) where
     covered-too : (j c : ℕ) → c < getD (set counts i (getD counts i 0 + 1)) j 0
-        → Covered n (timesIn times) (boundsIn zone) kept (suc j) (zoneAt (zoneSize n) seen (j * placesMet + c))
+        → Covered n (timesIn times) (boundsIn zone) kept (suc j) (zoneAt (zoneSize n) seen (j * placesMet n + c))
     covered-too j c h = elim (ℕ-discrete j i) [
       | yes p ↦ elim (ℕ-discrete c (getD counts i 0)) [
         | yes q ↦ rw (p, q) v
@@ -127,11 +127,11 @@ module _ {n : ℕ} {times zone : List ℤ} {kept : List Matrix} {seen : List ℤ
       | no p ↦ w .covered j c (rw (getD-set-other counts i j (getD counts i 0 + 1) 0 p) at h)
     ]
 
-    pub noted-more : Noted n times zone kept seen (notedIn counts i)
+    pub noted-more : Noted n times zone kept seen (notedIn n counts i)
     unfolding notedIn
-    noted-more = go (ltb (getD counts i 0) setsMet) refl
+    noted-more = go (ltb (getD counts i 0) (setsMet n)) refl
       where
-        go : (b : Bool) → ltb (getD counts i 0) setsMet ≡ b → Noted n times zone kept seen (cond b (set counts i (getD counts i 0 + 1)) counts)
+        go : (b : Bool) → ltb (getD counts i 0) (setsMet n) ≡ b → Noted n times zone kept seen (cond b (set counts i (getD counts i 0 + 1)) counts)
         go true e = record {
           tables = record { seen-size = w .tables .seen-size; counted = counted-few (w .tables .counted) row (ltb-true _ _ e) };
           covered = covered-too;
@@ -139,16 +139,16 @@ module _ {n : ℕ} {times zone : List ℤ} {kept : List Matrix} {seen : List ℤ
         go false e = w
 
   -- a set met is covered
-  noted-met : (i : ℕ) (p : Matrix) → anyOf (sameMatrix p) (metIn (zoneSize n) seen counts i) ≡ true → Covered n (timesIn times) (boundsIn zone) kept (suc i) p
+  noted-met : (i : ℕ) (p : Matrix) → anyOf (sameMatrix p) (metIn n seen counts i) ≡ true → Covered n (timesIn times) (boundsIn zone) kept (suc i) p
   noted-met i p e =
-      let all : Every (Covered n (timesIn times) (boundsIn zone) kept (suc i)) (metIn (zoneSize n) seen counts i)
+      let all : Every (Covered n (timesIn times) (boundsIn zone) kept (suc i)) (metIn n seen counts i)
       = every-tabulate (getD counts i 0) _ _ (w .covered i) in
       let (y, h, q) = some-at (every-some all (anyOf-true (sameMatrix p) _ e)) in
       rw (sameMatrix-true p y (h .1)) (h .0)
 
   -- nothing, or a set met before
   pub nothing-new : (i : ℕ) (o : Option Matrix) (cols : List ℕ) → ((p : Matrix) → o ≡ some p → Before n (timesIn times) p cols (suc i))
-      → unmet (metIn (zoneSize n) seen counts i) o ≡ none → foldl keep kept (extensions n (timesIn times) (boundsIn zone) o cols (suc i) (suc n - suc i)) ≡ kept
+      → unmet (metIn n seen counts i) o ≡ none → foldl keep kept (extensions n (timesIn times) (boundsIn zone) o cols (suc i) (suc n - suc i)) ≡ kept
   nothing-new i o cols b e = ⊎-elim
       (λ z. rw z (extensions-none n (timesIn times) (boundsIn zone) cols (suc i) (suc n - suc i) kept))
       (λ z. rw (z .1) (covered-again n (timesIn times) (boundsIn zone) (noted-met i (z .0) (z .2)) (b (z .0) (z .1))))

@@ -6,10 +6,9 @@ use mathlib.Core.List.{List}
 use lib.IntN.{ℤ}
 use lib.ListN.{length}
 use lib.Seq.{paste}
-use Rattle.model.specs.Sizes.{mostDepartures, zoneSize}
+use Rattle.model.specs.Sizes.{zoneSize}
 use Rattle.model.specs.Conditions.{Departures, Column}
 use Rattle.memory.specs.Numbers.{timesIn}
-use Rattle.memory.proofs.Places.{zone-fits}
 use Rattle.lists.specs.Lists.{numbersAt, zoneAt}
 use Rattle.lists.specs.Met.{freeAt}
 use Rattle.lists.specs.Inner.{Elsewhere, AddReady, parentIn, Underway}
@@ -21,25 +20,25 @@ module _ {n : ℕ} {times zone seen : List ℤ} {counts cols : List ℕ} {i : �
   departures = u .selecting .backward .table .departures
 
   -- its places lie in the table, the set of the row before before the free place
-  pub here-fits : freeAt counts i * zoneSize n + zoneSize n ≤ length seen
-  here-fits = free-fits (u .tables) (omega (arith, u .row, departures .few)) (zone-fits departures)
+  pub here-fits : freeAt n counts i * zoneSize n + zoneSize n ≤ length seen
+  here-fits = free-fits (u .tables) (u .row)
 
-  pub parent-fits : freeAt counts (i - 1) * zoneSize n + zoneSize n ≤ length seen
-  parent-fits = free-fits (u .tables) (omega (arith, u .row, departures .few)) (zone-fits departures)
+  pub parent-fits : freeAt n counts (i - 1) * zoneSize n + zoneSize n ≤ length seen
+  parent-fits = free-fits (u .tables) (omega (arith, u .row))
 
-  pub parent-before : freeAt counts (i - 1) < freeAt counts i
+  pub parent-before : freeAt n counts (i - 1) < freeAt n counts i
   parent-before = free-later (u .tables) (u .selecting .before .from-one)
 
   -- that set, copied to place k of a list
   module _ (list : List ℤ) (k : ℕ) (inside : k * zoneSize n + zoneSize n ≤ length list) where
     abbrev parent : List ℤ
-    parent = numbersAt (zoneSize n) seen (freeAt counts (i - 1))
+    parent = numbersAt (zoneSize n) seen (freeAt n counts (i - 1))
 
     abbrev copied : List ℤ
     copied = paste list (k * zoneSize n) parent (zoneSize n)
 
     long : length parent ≡ zoneSize n
-    long = length-numbers (zoneSize n) seen (freeAt counts (i - 1)) parent-fits
+    long = length-numbers (zoneSize n) seen (freeAt n counts (i - 1)) parent-fits
 
     pub copied-else : Elsewhere (zoneSize n) k list copied
     copied-else = stored-else (zoneSize n) k list parent long inside

@@ -1,7 +1,7 @@
 -- The sets met after each row, in memory; a set that is not among others.
 use Prim.Native.Nat.{ℕ, suc, _+_, _*_, _-_, _≤_, _<_}
 use native.Mathlib.Omega.{arith}
-use native.Mathlib.Nat.{mul-le-mul, suc-mul}
+use native.Mathlib.Nat.{mul-le-mul-right, suc-mul}
 use mathlib.Core.Path.{_≡_, refl, sym, ap, _∙_}
 use mathlib.Core.Logic.{_⊎_, inl, inr}
 use mathlib.Core.Bool.{Bool, true, false, not, cond}
@@ -11,14 +11,16 @@ use lib.IntN.{ℤ}
 use borrow.Author.Tests.{not-true, not-false}
 use lib.ListN.{length, getD}
 use Rattle.ints.proofs.Integers.{impossible}
-use Rattle.model.specs.Sizes.{mostDepartures, mostNumbers}
+use Rattle.model.specs.Sizes.{zoneSize}
 use Rattle.model.specs.Lists.{anyOf}
 use Rattle.model.specs.Matrix.{Matrix, sameMatrix}
 use Rattle.model.proofs.Tabulated.{tabulate-ext}
 use Rattle.memory.specs.Numbers.{boundsIn}
+use Rattle.memory.proofs.Places.{in-rows}
+use Rattle.memory.proofs.Fills.{same-row}
 use Rattle.zones.specs.Conditions.{Left, gone, kept}
-use Rattle.lists.specs.Lists.{placesMet, seenSize, zoneAt}
-use Rattle.lists.specs.Met.{freeAt, metIn, Tables, unmet}
+use Rattle.lists.specs.Lists.{placesMet, zoneAt}
+use Rattle.lists.specs.Met.{freeAt, metIn, Counts, Tables, unmet}
 use Rattle.lists.specs.Inner.{Elsewhere, PlacedAt}
 use Rattle.lists.proofs.places.Zones.{other-same}
 
@@ -68,20 +70,26 @@ module _ (zs : List Matrix) where
     placed-some e t m = record { elsewhere = p .elsewhere; left = unmet-left (p .left) (not-false r e) t m }
 
 -- ---- the table has a place for each
-module _ {seen : List ℤ} {counts : List ℕ} (t : Tables seen counts) where
-  pub free-fits : {size i : ℕ} → i ≤ mostDepartures → size ≤ mostNumbers → freeAt counts i * size + size ≤ length seen
-  free-fits {size} {i} row small =
-      let l : suc (freeAt counts i) ≤ suc mostDepartures * placesMet = omega (arith, t .counted .few i) in
-      let k : suc (freeAt counts i) * size ≤ seenSize = mul-le-mul l small in
-      omega (arith, suc-mul (freeAt counts i) size, t .seen-size)
+-- that of row i lies before those of the rows below
+pub free-below : {n : ℕ} {counts : List ℕ} → Counts n counts → (i k : ℕ) → i < k → freeAt n counts i < k * placesMet n
+free-below {n} {counts} w i k h = in-rows (placesMet n) i (getD counts i 0) k h (omega (arith, w .few i))
+
+module _ {n : ℕ} {seen : List ℤ} {counts : List ℕ} (t : Tables n seen counts) where
+  pub free-fits : {i : ℕ} → i ≤ n → freeAt n counts i * zoneSize n + zoneSize n ≤ length seen
+  free-fits {i} row =
+      let l : freeAt n counts i < suc n * placesMet n = free-below (t .counted) i (suc n) (omega arith) in
+      omega (arith, mul-le-mul-right (zoneSize n) l, suc-mul (freeAt n counts i) (zoneSize n), t .seen-size)
 
   -- that of the row before lies before it
-  pub free-later : {i : ℕ} → 1 ≤ i → freeAt counts (i - 1) < freeAt counts i
-  free-later {i} h = omega (arith, t .counted .few (i - 1))
+  pub free-later : {i : ℕ} → 1 ≤ i → freeAt n counts (i - 1) < freeAt n counts i
+  free-later {i} h = omega (arith, free-below (t .counted) (i - 1) i (omega arith))
 
   -- it is none of the places of sets noted
-  pub free-other : (i j c : ℕ) → c < getD counts j 0 → j * placesMet + c ≡ freeAt counts i → ⊥
-  free-other i j c h e = let f = t .counted .few i in let g = t .counted .few j in let same : j ≡ i = omega arith in omega (arith, rw same at h)
+  pub free-other : (i j c : ℕ) → c < getD counts j 0 → j * placesMet n + c ≡ freeAt n counts i → ⊥
+  free-other i j c h e =
+      let few = t .counted .few in
+      let same = same-row (placesMet n) i (getD counts i 0) j c (omega (arith, few i)) (omega (arith, few j)) e in
+      omega (arith, rw same at h, rw same at e)
 
-  pub met-same : {size : ℕ} (i : ℕ) {seen′ : List ℤ} → Elsewhere size (freeAt counts i) seen seen′ → metIn size seen′ counts i ≡ metIn size seen counts i
-  met-same i e = tabulate-ext (getD counts i 0) (i * placesMet) _ _ (λ k l u. other-same e k (λ is. omega arith))
+  pub met-same : (i : ℕ) {seen′ : List ℤ} → Elsewhere (zoneSize n) (freeAt n counts i) seen seen′ → metIn n seen′ counts i ≡ metIn n seen counts i
+  met-same i e = tabulate-ext (getD counts i 0) (i * placesMet n) _ _ (λ k l u. other-same e k (λ is. omega arith))

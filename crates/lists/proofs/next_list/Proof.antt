@@ -1,7 +1,7 @@
 -- Zone by zone of the list at source, each copied out first.
 use native.Mathlib.Omega.{arith}
 use Prim.Native.Nat.{_+_, _*_, _-_, _≤_}
-use mathlib.Core.Path.{_≡_, sym, ap, _∙_}
+use mathlib.Core.Path.{_≡_, refl, sym, ap, _∙_}
 use mathlib.Core.List.{List, _++_, foldl}
 use lib.IntN.{ℤ}
 use lib.ListN.{length, take, drop}
@@ -9,7 +9,7 @@ use Rattle.model.specs.Sizes.{zoneSize}
 use Rattle.model.specs.Search.{keep}
 use Rattle.memory.specs.Numbers.{boundsIn}
 use Rattle.memory.proofs.Places.{zone-fits}
-use Rattle.lists.specs.Lists.{seenSize, zoneAt, listIn, ListHeld}
+use Rattle.lists.specs.Lists.{zoneAt, listIn, ListHeld}
 use Rattle.lists.proofs.Fronts.{front-long, front-zone, front-room, front-is, source-long, loaded-is}
 use Rattle.lists.proofs.Pulling.{lent-is, put-is, backOf, Pulling, pulling-start, goal-fits, goal-room, source-place, source-same, source-one}
 use Rattle.lists.proofs.Pulling.{front-is as work-front, long-is, pulling-on, pulling-full, pulling-done}
@@ -18,18 +18,18 @@ use Rattle.lists.proofs.next_list.Tie as tie
 
 abbrev Inv-loop : tie.InvT-loop
 Inv-loop work₀ source goal count capacity times seen₀ n size zone₀ built₀ k₀ work seen zone built k =
-    Pulling n capacity count source goal times work₀ work built k × (length seen ≡ seenSize) × (size ≤ length zone)
+    Pulling n capacity count source goal times work₀ work built k × (length seen ≡ length seen₀) × (size ≤ length zone)
 
 abbrev μ-loop : tie.MeasureT-loop
 μ-loop work₀ source goal count capacity times seen₀ n size zone₀ built₀ k₀ work seen zone built k = count - k
 
 zone-size-requires : tie.Need-zone-size-requires Inv-loop μ-loop
-zone-size-requires c κs = c .pre .sources .table .departures .few
+zone-size-requires c κs = omega (arith, c .pre .sources .table .departures .few)
 
 loop-holds : tie.Need-loop-holds Inv-loop μ-loop
 loop-holds c =
     let p = c .before .pre in
-    (pulling-start p, p .seen-size, omega (arith, zone-fits (p .sources .table .departures), c .zone-size .ensures))
+    (pulling-start p, refl, omega (arith, zone-fits (p .sources .table .departures), c .zone-size .ensures))
 
 -- the zone's place
 place : (c : tie.In-loop Inv-loop μ-loop) →
@@ -107,7 +107,7 @@ pull-back-requires c κs =
       room = rw (lent-is (b .args .goal) (l .loop .work)) (goal-room (b .pre) (l .loop .inv .0));
       sources = source-one (b .pre) (l .loop .inv .0) (i .loop-test .taken) (ap boundsIn (lent s) ∙ loaded s);
       source = front-zone _ _ (room s) (b .pre .sources .table .departures) (z .zone-size .ensures);
-      seen-size = l .loop .inv .1;
+      seen-size = omega (arith, b .pre .seen-size, l .loop .inv .1);
     }
 
 -- zone k, pulled back
@@ -130,7 +130,9 @@ same c =
     let l = c .before .before .before .before .before .before .before .before .before .before in
     c .pull-back .kept .0 ∙ ap (λ (l : List ℤ). length l) (lent-is (l .before .before .args .goal) (l .loop .work))
 
-seen-same : (c : tie.After-pull-back Inv-loop μ-loop) → length (c .pull-back .last .1 .1 .1 .1 .1 .0) ≡ seenSize
+seen-same : (c : tie.After-pull-back Inv-loop μ-loop) →
+    let l = c .before .before .before .before .before .before .before .before .before .before in
+    length (c .pull-back .last .1 .1 .1 .1 .1 .0) ≡ length (l .before .before .args .seen .now)
 seen-same c =
     let l = c .before .before .before .before .before .before .before .before .before .before in
     c .pull-back .kept .1 .1 .1 .1 .1 .0 ∙ l .loop .inv .1
@@ -145,10 +147,7 @@ same-length c =
     ∙ long-is (b .pre) (l .loop .inv .0) (i .loop-test .taken) (p .pull-back .last .0) (same p) (held p)
 
 same-length-2 : tie.Need-same-length-2 Inv-loop μ-loop
-same-length-2 c =
-    let p = c .before .before .before in
-    let l = p .before .before .before .before .before .before .before .before .before .before in
-    seen-same p ∙ sym (l .before .before .pre .seen-size)
+same-length-2 c = seen-same (c .before .before .before)
 
 returns : tie.Need-returns Inv-loop μ-loop
 returns c =
@@ -177,7 +176,7 @@ loop-again c =
     )
 
 same-length-4 : tie.Need-same-length-4 Inv-loop μ-loop
-same-length-4 c = c .before .loop .inv .1 ∙ sym (c .before .before .before .pre .seen-size)
+same-length-4 c = c .before .loop .inv .1
 
 returns-2 : tie.Need-returns-2 Inv-loop μ-loop
 returns-2 c =

@@ -6,7 +6,7 @@ use Prim.Native.Nat.{_+_, _*_, _-_, _≤_}
 use lib.ListN.{length}
 use lib.Seq.{paste}
 use Rattle.model.specs.Sizes.{zoneSize}
-use Rattle.lists.specs.Lists.{seenSize, numbersAt, listIn}
+use Rattle.lists.specs.Lists.{numbersAt, listIn}
 use Rattle.lists.specs.Met.{freeAt}
 use Rattle.lists.specs.Inner.{PlacedAt, leftOf}
 use Rattle.lists.proofs.places.Zones.{length-numbers, lent-at, list-same, else-trans}
@@ -26,20 +26,19 @@ free-requires c κs = search needs
 
 -- that set lies in the table
 inside : (c : tie.After-free) →
-    let end = c .free .result * c .before .zone-size .result + c .before .zone-size .result in
-    (end ≤ length (c .before .before .before .before .args .seen .now)) × (end ≤ seenSize)
+    c .free .result * c .before .zone-size .result + c .before .zone-size .result ≤ length (c .before .before .before .before .args .seen .now)
 inside c =
     let u = c .before .before .before .before .pre .0 .ready in
-    rw (c .before .zone-size .ensures, c .free .ensures) (parent-fits u, omega (arith, parent-fits u, u .tables .seen-size))
+    rw (c .before .zone-size .ensures, c .free .ensures) (parent-fits u)
 
 mul-base : tie.Need-mul-base
-mul-base c = omega (arith, inside c .1)
+mul-base c = omega (arith, inside c)
 
 add-end : tie.Need-add-end
-add-end c = omega (arith, inside c .1)
+add-end c = omega (arith, inside c)
 
 mul-store : tie.Need-mul-store
-mul-store c = omega (arith, inside (c .before) .1)
+mul-store c = omega (arith, inside (c .before))
 
 sub-store : tie.Need-sub-store
 sub-store c = search needs
@@ -48,25 +47,25 @@ part-store-start : tie.Need-part-store-start
 part-store-start c = search needs
 
 part-store-end : tie.Need-part-store-end
-part-store-end c = inside (c .before) .0
+part-store-end c = inside (c .before)
 
 store-requires : tie.Need-store-requires
 store-requires c κs =
     let f = c .before .before in
     let z = f .before in
     let b = z .before .before .before in
-    let long = length-numbers (z .zone-size .result) (b .args .seen .now) (f .free .result) (inside f .0) in
+    let long = length-numbers (z .zone-size .result) (b .args .seen .now) (f .free .result) (inside f) in
     (rw (lent-at (z .zone-size .result) (f .free .result) (b .args .seen .now)) long, rw (z .zone-size .ensures) (b .pre .1))
 
 -- the copy
 copied : (c : tie.After-store) →
     let a = c .before .before .before .before .before .before .before .args in
     let size = zoneSize (a .n) in
-    c .store .last .0 ≡ paste (a .list .now) (a .count * size) (numbersAt size (a .seen .now) (freeAt (a .counts .now) (a .n - 1))) size
+    c .store .last .0 ≡ paste (a .list .now) (a .count * size) (numbersAt size (a .seen .now) (freeAt (a .n) (a .counts .now) (a .n - 1))) size
 copied c =
     let f = c .before .before .before in
     let a = f .before .before .before .before .args in
-    let lent = lent-at (zoneSize (a .n)) (freeAt (a .counts .now) (a .n - 1)) (a .seen .now) in
+    let lent = lent-at (zoneSize (a .n)) (freeAt (a .n) (a .counts .now) (a .n - 1)) (a .seen .now) in
     rw (f .before .zone-size .ensures, f .free .ensures, lent) at (c .store .ensures)
 
 add-at-requires : tie.Need-add-at-requires

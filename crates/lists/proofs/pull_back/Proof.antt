@@ -8,9 +8,9 @@ use lib.ListN.{length, drop}
 use lib.Seq.{length-front}
 use Rattle.model.specs.Sizes.{zoneSize}
 use Rattle.model.specs.Matrix.{everything}
-use Rattle.memory.proofs.Places.{zone-fits}
 use Rattle.lists.specs.Lists.{seenSize, zoneAt}
 use Rattle.lists.proofs.Fronts.{front-long, front-zone, front-at}
+use Rattle.lists.proofs.Lengths.{set-room}
 use Rattle.lists.proofs.Starting.{row-one, none-noted, preimages}
 use Rattle.lists.proofs.pull_back.Statement.{statement}
 use Rattle.lists.proofs.pull_back.Tie as tie
@@ -20,7 +20,7 @@ zone-size-requires c κs = search needs
 
 -- the table has room for the first set
 inside : (c : tie.After-zone-size) → c .zone-size .result ≤ length (c .before .args .seen .now)
-inside c = let p = c .before .pre in omega (arith, zone-fits (p .sources .table .departures), c .zone-size .ensures, p .seen-size)
+inside c = let s = c .before in omega (arith, set-room (s .args .n), c .zone-size .ensures, s .pre .seen-size)
 
 slice-relend-prefix-everything : tie.Need-slice-relend-prefix-everything
 slice-relend-prefix-everything c = inside c
@@ -36,10 +36,11 @@ everything-requires c κs =
 -- the table with that set
 long : (c : tie.After-everything) →
     let z = c .before .before in
-    length (c .everything .last .0 ++ drop (z .zone-size .result) (z .before .args .seen .now)) ≡ seenSize
+    let a = z .before .args in
+    seenSize (a .n) ≤ length (c .everything .last .0 ++ drop (z .zone-size .result) (a .seen .now))
 long c =
     let z = c .before .before in
-    length-front (z .before .args .seen .now) (c .everything .last .0) (z .zone-size .result) (c .everything .kept .0) ∙ z .before .pre .seen-size
+    rw (length-front (z .before .args .seen .now) (c .everything .last .0) (z .zone-size .result) (c .everything .kept .0)) (z .before .pre .seen-size)
 
 first : (c : tie.After-everything) →
     let z = c .before .before in

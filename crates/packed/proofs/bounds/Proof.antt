@@ -1,33 +1,31 @@
 -- The entries read so far, and the array that holds them.
 use borrow.Author.Needs.{needs}
-use mathlib.Core.Path.{_≡_, refl, ap}
-use mathlib.Core.List.{List, [], _∷_, map, map-append}
-use lib.ListN.{length-map}
+use mathlib.Core.Path.{_≡_, refl}
+use mathlib.Core.List.{List, []}
 use Prim.Native.Nat.{ℕ, _+_, _-_, _*_, _<_}
 use native.Mathlib.Numerals.{add-one}
 use native.Mathlib.Omega.{arith}
-use Rattle.model.specs.Sizes.{mostBounds}
-use Rattle.model.specs.declared.Slot.{Slot}
+use Rattle.model.specs.Sizes.{mostBounds, mostWidth}
+use Rattle.model.specs.declared.Limit.{Limit}
+use Rattle.model.specs.declared.Form.{Form}
 use Rattle.model.specs.Faults.{nothing, unmarked}
-use Rattle.model.specs.Packed.{Reading, got, andThen, bounds}
+use Rattle.model.specs.Packed.{Reading, boundKind, entries}
 use Rattle.model.proofs.Places.{pattern-fits}
-use Rattle.packed.specs.Readings.{From, mostPatternBits, boundEntry}
-use Rattle.packed.proofs.Laws.{answered, entriesOf, Entries, entries-none, entries-more, entries-fault, entries-done, Held, held-none, held-more}
+use Rattle.packed.specs.Readings.{From, mostPatternBits, limitRead, boundsOf}
+use Rattle.packed.proofs.Laws.{answered, Entries, entries-none, entries-more, entries-fault, entries-done, Held, held-none, held-more}
 use Rattle.packed.proofs.bounds.Statement.{statement}
 use Rattle.packed.proofs.bounds.Tie as tie
 
 abbrev Inv-loop : tie.InvT-loop
-Inv-loop s n limits₀ cursor₀ count i₀ limits cursor i =
-    (read : List Slot) × Entries boundEntry s count (cursor₀ .at) i (cursor .at) read × Held (unmarked nothing) 0 limits₀ limits (map unmarked read)
+Inv-loop s n form limits₀ cursor₀ count i₀ limits cursor i =
+    (read : List Limit) × Entries (boundKind form) mostWidth s count (cursor₀ .at) i (cursor .at) read × Held (unmarked nothing) 0 limits₀ limits read
 
 abbrev μ-loop : tie.MeasureT-loop
-μ-loop s n limits₀ cursor₀ count i₀ limits cursor i = count - i
+μ-loop s n form limits₀ cursor₀ count i₀ limits cursor i = count - i
 
--- the code's count of the bounds, and what is read of them
-bounds-are : (s : List ℕ) (n p : ℕ) {x : Reading (List Slot)} → entriesOf boundEntry s (n * (n + 1)) p [] ≡ x
-    → bounds s n p ≡ andThen x (λ es q. got (map unmarked es) q)
-unfolding bounds
-bounds-are s n p e = ap (λ (y : Reading (List Slot)). andThen y (λ es q. got (map unmarked es) q)) (rw (add-one n) at e)
+-- the code's count of the bounds
+bounds-are : (f : Form) (s : List ℕ) (n p : ℕ) {x : Reading (List Limit)} → entries (boundKind f) s (n * (n + 1)) p [] ≡ x → boundsOf f s n p ≡ x
+bounds-are f s n p e = rw (add-one n) at e
 
 enum-told : tie.Need-enum-told Inv-loop μ-loop
 enum-told c = search needs
@@ -49,13 +47,13 @@ starts : (c : tie.After-known-told Inv-loop μ-loop) → From (c .before .before
 starts c = rw (c .before .from .given .1) at (c .before .before .before .before .pre .0)
 
 loop-holds : tie.Need-loop-holds Inv-loop μ-loop
-loop-holds c = ([], entries-none (starts c .within), held-none (unmarked nothing))
+loop-holds c = ([], entries-none (omega arith) (starts c .within), held-none (unmarked nothing))
 
 index : (c : tie.In-loop Inv-loop μ-loop) → c .before .loop .i < mostBounds
 index c = let s = c .before .before .before .before .before .before in omega (arith, pattern-fits (s .pre .1))
 
-entry-requires : tie.Need-entry-requires Inv-loop μ-loop
-entry-requires c κs = omega (arith, index c, starts (c .before .before))
+bound-requires : tie.Need-bound-requires Inv-loop μ-loop
+bound-requires c κs = omega (arith, index c, starts (c .before .before))
 
 enum-known-f : tie.Need-enum-known-f Inv-loop μ-loop
 enum-known-f c = search needs
@@ -66,18 +64,18 @@ returns-2 c =
     let l = d .before .before in
     rw (l .before .before .from .given .1)
     (record {
-      read = map unmarked (l .loop .inv .0);
-      is = bounds-are _ _ _ (entries-fault (l .loop .inv .1) (d .before .loop-test .taken) (answered (d .entry .ensures) (c .before .f .given .1)));
+      read = l .loop .inv .0;
+      is = bounds-are _ _ _ _ (entries-fault (l .loop .inv .1) (d .before .loop-test .taken) (answered limitRead (d .bound .ensures) (c .before .f .given .1)));
       stored = l .loop .inv .2 .stored [] refl refl;
       place = omega arith;
     })
 
-enum-known-slot : tie.Need-enum-known-slot Inv-loop μ-loop
-enum-known-slot c = search needs
+enum-known-limit : tie.Need-enum-known-limit Inv-loop μ-loop
+enum-known-limit c = search needs
 
 -- a bound is stored
-stores : (c : tie.After-unmarked Inv-loop μ-loop) → c .before .before .before .before .before .before .loop .i < mostBounds
-stores c = index (c .before .before .before .before .before)
+stores : (c : tie.After-known-told3 Inv-loop μ-loop) → c .before .before .before .before .before .loop .i < mostBounds
+stores c = index (c .before .before .before .before)
 
 mul-limits : tie.Need-mul-limits Inv-loop μ-loop
 mul-limits c = omega (arith, stores c)
@@ -93,16 +91,14 @@ loop-less c = search needs
 
 loop-again : tie.Need-loop-again Inv-loop μ-loop
 loop-again c =
-    let e = c .before .before in
+    let e = c .before in
     let d = e .before .before in
     let u = d .before in
     let l = u .before .loop in
-    let slot = e .slot .given .0 .0 in
-    let kept = l .inv .0 in (
+    let limit = e .limit .given .0 .0 in (
       _,
-      entries-more (l .inv .1) (u .loop-test .taken) slot _ (answered (d .entry .ensures) (e .slot .given .1)),
-      rw (c .unmarked .ensures, map-append unmarked kept (slot ∷ []))
-          (held-more (l .inv .2) (l .i) (omega (arith, length-map kept unmarked)) (stores c) (unmarked slot)),
+      entries-more (l .inv .1) (u .loop-test .taken) limit _ (answered limitRead (d .bound .ensures) (e .limit .given .1)),
+      held-more (l .inv .2) (l .i) (omega arith) (stores c) limit,
     )
 
 returns-3 : tie.Need-returns-3 Inv-loop μ-loop
@@ -110,8 +106,8 @@ returns-3 c =
     let l = c .before in
     rw (l .before .before .from .given .1)
     (record {
-      read = map unmarked (l .loop .inv .0);
-      is = bounds-are _ _ _ (entries-done (l .loop .inv .1) (c .loop-test .left));
+      read = l .loop .inv .0;
+      is = bounds-are _ _ _ _ (entries-done (l .loop .inv .1) (c .loop-test .left));
       stored = l .loop .inv .2 .stored [] refl refl;
       place = omega (arith, pattern-fits (l .before .before .before .before .before .pre .1));
     })
@@ -128,11 +124,10 @@ bounds-spec =
     add-count
     mul-count
     loop-holds
-    entry-requires
+    bound-requires
     enum-known-f
     returns-2
-    enum-known-slot
-    (λ c κs. search needs)
+    enum-known-limit
     mul-limits
     array-set-from-limits
     add-i

@@ -2,10 +2,10 @@
 use borrow.Author.Needs.{needs}
 use mathlib.Core.Path.{_≡_, sym, ap, _∙_}
 use Prim.Native.Nat.{ℕ}
-use Rattle.model.specs.Packed.{Reading, got, andThen, caseOf, bounds, fill, body}
+use Rattle.model.specs.Packed.{Reading, got, andThen, caseOf, fill, body}
 use Rattle.packed.specs.declared.Next.{Next}
 use Rattle.packed.specs.declared.Next.the-variants as nexts
-use Rattle.packed.specs.Readings.{nextRead}
+use Rattle.packed.specs.Readings.{nextRead, boundsOf}
 use Rattle.packed.proofs.rest.Statement.{statement}
 use Rattle.packed.proofs.rest.Tie as tie
 
@@ -22,7 +22,7 @@ all-read : (c : tie.After-padding) →
     let t = e .before in
     let a = t .before .before .args in
     let case = caseOf (a .n) (a .horizon .0) (t .times .ensures .read) (e .bounds .ensures .read) (d .bounds2 .ensures .read) in
-    body (a .s .now) (a .n) (a .horizon .0) (a .first .at) ≡ andThen (nextRead (c .padding .result)) (λ z q. got case q)
+    body (a .form) (a .s .now) (a .n) (a .horizon .0) (a .first .at) ≡ andThen (nextRead (c .padding .result)) (λ z q. got case q)
 unfolding body
 all-read c =
     let d = c .before in
@@ -31,8 +31,8 @@ all-read c =
     let a = t .before .before .args in
     let case = caseOf (a .n) (a .horizon .0) (t .times .ensures .read) (e .bounds .ensures .read) (d .bounds2 .ensures .read) in
     let s = a .s .now in
-    after (t .times .result .next) (t .times .ensures .read) (bounds s (a .n)) _ (t .times .ensures .is)
-    ∙ after (e .bounds .result .next) (e .bounds .ensures .read) (bounds s (a .n)) _ (e .bounds .ensures .is)
+    after (t .times .result .next) (t .times .ensures .read) (boundsOf (a .form) s (a .n)) _ (t .times .ensures .is)
+    ∙ after (e .bounds .result .next) (e .bounds .ensures .read) (boundsOf (a .form) s (a .n)) _ (e .bounds .ensures .is)
     ∙ after (d .bounds2 .result .next) (d .bounds2 .ensures .read) (fill s) _ (d .bounds2 .ensures .is)
     ∙ ap (λ (x : Reading ℕ). andThen x (λ z q. got case q)) (sym (c .padding .ensures))
 

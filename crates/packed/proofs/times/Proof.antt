@@ -4,22 +4,22 @@ use borrow.Author.Tests.{not-true, not-false}
 use mathlib.Core.Path.{_≡_, refl, sym, ap, _∙_}
 use mathlib.Core.Bool.{Bool, _||_}
 use mathlib.Core.List.{List, [], _++_, map}
-use Prim.Native.Nat.{ℕ, _+_, _-_, _*_, _≤_, _<_}
+use Prim.Native.Nat.{ℕ, suc, _+_, _-_, _*_, _≤_, _<_}
 use native.Mathlib.Nat.{mul-le-mul}
 use native.Mathlib.Omega.{arith}
 use lib.ListN.{length, length-append}
-use Rattle.model.specs.Sizes.{mostDepartures, mostTimes, mostBounds}
+use Rattle.model.specs.Sizes.{mostDepartures, mostTimes, mostBounds, timeWidth}
 use Rattle.model.specs.declared.Slot.{Slot}
 use Rattle.model.specs.Lists.{padded, anyOf}
 use Rattle.model.specs.Network.{regular}
 use Rattle.model.specs.Faults.{timeOf, nothing}
-use Rattle.model.specs.Packed.{got, rows}
+use Rattle.model.specs.Packed.{got, timeKind, entries, rows}
 use Rattle.model.proofs.Places.{row-fits}
 use Rattle.packed.specs.declared.Cursor.{Cursor}
 use Rattle.packed.specs.declared.Next.{Next}
 use Rattle.packed.specs.declared.Next.the-variants as nexts
-use Rattle.packed.specs.Readings.{InCase, timeEntry}
-use Rattle.packed.proofs.Laws.{answered, entriesOf, Entries, entries-none, entries-more, entries-fault, entries-done, Held, held-none, held-more}
+use Rattle.packed.specs.Readings.{InCase, slotRead}
+use Rattle.packed.proofs.Laws.{answered, Entries, entries-none, entries-more, entries-fault, entries-done, Held, held-none, held-more}
 use Rattle.packed.proofs.Laws.{rows-turn, rows-end, regular-more, next-row}
 use Rattle.packed.proofs.times.Statement.{statement}
 use Rattle.packed.proofs.times.Tie as tie
@@ -29,7 +29,7 @@ record AtRow (s : List ℕ) (n first : ℕ) (slots : List Slot) (cursor : Cursor
   pub long : length read ≡ k
   pub size : k ≡ row * n
   pub within : row ≤ n
-  pub place : InCase s (first + (1 + timeEntry .width) * k) (cursor .at)
+  pub place : InCase s (first + suc timeWidth * k) (cursor .at)
   pub ends : next ≡ nexts.At cursor
   pub stored : slots ≡ padded nothing mostBounds read
   pub rest : rows s n n first [] ≡ rows s n (n - row) (cursor .at) read
@@ -37,7 +37,7 @@ record AtRow (s : List ℕ) (n first : ℕ) (slots : List Slot) (cursor : Cursor
 abbrev Inv-loop : tie.InvT-loop
 Inv-loop s n slots₀ cursor₀ k₀ row first some₀ column₀ slots cursor k some column =
     (read : List Slot)
-    × Entries timeEntry s n (cursor₀ .at) column (cursor .at) read
+    × Entries timeKind timeWidth s n (cursor₀ .at) column (cursor .at) read
     × Held nothing k₀ slots₀ slots read
     × (k ≡ k₀ + column)
     × (some ≡ regular (map timeOf read))
@@ -68,7 +68,7 @@ rows-holds c =
 
 loop-holds : tie.Need-loop-holds Inv-loop μ-loop Inv-rows μ-rows
 unfolding regular anyOf
-loop-holds c = ([], entries-none (c .before .rows .inv .place .within), held-none nothing, omega arith, refl)
+loop-holds c = ([], entries-none (omega arith) (c .before .rows .inv .place .within), held-none nothing, omega arith, refl)
 
 -- the entry is one of the table's
 index : (c : tie.In-loop Inv-loop μ-loop Inv-rows μ-rows) → c .before .loop .k < mostTimes
@@ -76,8 +76,8 @@ index c =
     let r = c .before .before in
     omega (arith, row-fits (r .before .before .before .pre .1) (r .rows-test .taken))
 
-entry-requires : tie.Need-entry-requires Inv-loop μ-loop Inv-rows μ-rows
-entry-requires c κs = omega (arith, index c)
+time-requires : tie.Need-time-requires Inv-loop μ-loop Inv-rows μ-rows
+time-requires c κs = omega (arith, index c)
 
 enum-known-f : tie.Need-enum-known-f Inv-loop μ-loop Inv-rows μ-rows
 enum-known-f c = search needs
@@ -108,7 +108,7 @@ loop-again c =
     let l = u .before .loop in
     let slot = e .slot .given .0 .0 in (
       _,
-      entries-more (l .inv .1) (u .loop-test .taken) slot _ (answered (d .entry .ensures) (e .slot .given .1)),
+      entries-more (l .inv .1) (u .loop-test .taken) slot _ (answered slotRead (d .time .ensures) (e .slot .given .1)),
       held-more (l .inv .2) (l .k) (omega arith) (omega (arith, index u)) slot,
       omega arith,
       ap (λ (b : Bool). b || slot .has) (l .inv .4) ∙ sym (regular-more (l .inv .0) slot),
@@ -124,7 +124,7 @@ rows-less c = search needs
 row-read : (c : tie.After-loop Inv-loop μ-loop Inv-rows μ-rows) →
     let r = c .before .before .before in
     let a = r .before .before .args in
-    entriesOf timeEntry (a .s .now) (a .n) (r .rows .cursor .at) [] ≡ got (c .before .loop .inv .0) (c .before .loop .cursor .at)
+    entries timeKind (a .s .now) (a .n) (r .rows .cursor .at) [] ≡ got (c .before .loop .inv .0) (c .before .loop .cursor .at)
 row-read c = entries-done (c .before .loop .inv .1) (c .loop-test .left)
 
 rows-again : tie.Need-rows-again Inv-loop μ-loop Inv-rows μ-rows
@@ -170,7 +170,7 @@ returns-2 c =
     record {
       read = i .read ++ l .inv .0;
       is = i .rest ∙ rows-turn _ _ _ _ _ (v .rows-test .taken)
-          ∙ simp (entries-fault (l .inv .1) (u .loop-test .taken) (answered (d .entry .ensures) (c .before .f .given .1)));
+          ∙ simp (entries-fault (l .inv .1) (u .loop-test .taken) (answered slotRead (d .time .ensures) (c .before .f .given .1)));
       stored = l .inv .2 .stored (i .read) (i .long) (i .stored);
       place = omega arith;
     }
@@ -198,7 +198,7 @@ times-spec =
     μ-rows
     rows-holds
     loop-holds
-    entry-requires
+    time-requires
     enum-known-f
     enum-known-slot
     mul-slots

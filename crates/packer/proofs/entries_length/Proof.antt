@@ -4,28 +4,29 @@ use native.Mathlib.Omega.{arith}
 use mathlib.Core.Path.{_≡_, ap, _∙_}
 use mathlib.Core.List.{flatMap}
 use lib.ListN.{length, take, length-append}
-use Rattle.model.specs.Sizes.{boundWidth}
+use Rattle.model.specs.Sizes.{mostWidth}
 use Rattle.model.specs.Writing.{entriesBits}
-use Rattle.packer.specs.Ink.{ofWidth}
+use Rattle.packer.specs.Ink.{ofWidths}
 use Rattle.packer.proofs.Parts.{entries-next}
 use Rattle.packer.proofs.entries_length.Statement.{statement}
 use Rattle.packer.proofs.entries_length.Tie as tie
 
 abbrev Inv-loop : tie.InvT-loop
-Inv-loop count width slots total₀ i₀ total i = (i ≤ count) × (total ≡ length (entriesBits (ofWidth width) (take i slots))) × (total ≤ (1 + boundWidth) * i)
+Inv-loop count widths entries total₀ i₀ total i =
+    (i ≤ count) × (total ≡ length (entriesBits (ofWidths widths) (take i entries))) × (total ≤ (1 + mostWidth) * i)
 
 abbrev μ-loop : tie.MeasureT-loop
-μ-loop count width slots total₀ i₀ total i = count - i
+μ-loop count widths entries total₀ i₀ total i = count - i
 
 loop-holds : tie.Need-loop-holds Inv-loop μ-loop
 unfolding entriesBits flatMap
 loop-holds c = omega arith
 
-mul-slot : tie.Need-mul-slot Inv-loop μ-loop
-mul-slot c = omega arith
+mul-limit : tie.Need-mul-limit Inv-loop μ-loop
+mul-limit c = omega arith
 
-array-copy-out-slot : tie.Need-array-copy-out-slot Inv-loop μ-loop
-array-copy-out-slot c = omega arith
+array-copy-out-limit : tie.Need-array-copy-out-limit Inv-loop μ-loop
+array-copy-out-limit c = omega arith
 
 entry-length-requires : tie.Need-entry-length-requires Inv-loop μ-loop
 entry-length-requires c κs = omega arith
@@ -44,7 +45,8 @@ loop-again c =
     let l = c .before .before .before in
     let a = l .before .args in
     let i = l .loop .i in
-    let more = ap length (entries-next (ofWidth (a .width)) (a .t1) i (omega arith)) ∙ length-append (entriesBits (ofWidth (a .width)) (take i (a .t1))) _ in
+    let k = ofWidths (a .widths) in
+    let more = ap length (entries-next k (a .t1) i (omega arith)) ∙ length-append (entriesBits k (take i (a .t1))) _ in
     (omega arith, omega (arith, more), omega arith)
 
 returns : tie.Need-returns Inv-loop μ-loop
@@ -59,8 +61,8 @@ entries-length-spec =
     Inv-loop
     μ-loop
     loop-holds
-    mul-slot
-    array-copy-out-slot
+    mul-limit
+    array-copy-out-limit
     entry-length-requires
     add-total
     add-i

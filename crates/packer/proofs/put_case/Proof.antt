@@ -5,10 +5,10 @@ use native.Mathlib.Numerals.{add-one}
 use native.Mathlib.Omega.{arith}
 use mathlib.Core.Path.{_≡_}
 use mathlib.Core.List.{List, []}
-use lib.ListN.{length, length-append}
+use lib.ListN.{length}
 use Rattle.model.specs.Sizes.{patternSize}
-use Rattle.model.proofs.Spelled.{length-field}
-use Rattle.packer.specs.Ink.{CanInk, Inks, headBits, tableBits, patternsBits, formBits}
+use Rattle.model.specs.Writing.{headBits}
+use Rattle.packer.specs.Ink.{CanInk, Inks, timesBits, patternsBits, formBits}
 use Rattle.packer.proofs.Inking.{first-pen, inked-first, can-first, inks-then}
 use Rattle.packer.proofs.Sound.{form-length}
 use Rattle.packer.proofs.put_case.Statement.{statement}
@@ -16,22 +16,22 @@ use Rattle.packer.proofs.put_case.Tie as tie
 
 -- the bits of the case, and of its bounds
 abbrev bits : tie.Start → List ℕ
-bits c = let a = c .args in formBits (a .n) (a .horizon .0) (a .times) (a .start) (a .target)
+bits c = let a = c .args in formBits (a .form) (a .n) (a .horizon .0) (a .times) (a .start) (a .target)
 
 abbrev boundsBits : tie.Start → List ℕ
-boundsBits c = let a = c .args in patternsBits (patternSize (a .n)) (a .start) (a .target)
+boundsBits c = let a = c .args in patternsBits (a .form) (patternSize (a .n)) (a .start) (a .target)
 
 -- how many they are, and the room for them
 long : (c : tie.Start) → let a = c .args in
-    length (bits c) ≡ length (headBits (a .n) (a .horizon .0)) + length (tableBits (a .n) (a .times)) + length (boundsBits c)
-long c = let a = c .args in form-length (a .n) (a .horizon .0) (a .times) (a .start) (a .target)
+    length (bits c) ≡ length (headBits (a .form) (a .n) (a .horizon .0)) + length (timesBits (a .n) (a .times)) + length (boundsBits c)
+long c = let a = c .args in form-length (a .form) (a .n) (a .horizon .0) (a .times) (a .start) (a .target)
 
 room : (c : tie.Start) → CanInk (length (bits c)) first-pen (c .args .out .now)
 room c = can-first (bits c) (c .args .out .now) (c .pre .1)
 
 after-head : (c : tie.After-head) →
     let s = c .before .before .before in
-    CanInk (length (tableBits (s .args .n) (s .args .times)) + length (boundsBits s)) (c .head .result) (c .head .last .1 .0)
+    CanInk (length (timesBits (s .args .n) (s .args .times)) + length (boundsBits s)) (c .head .result) (c .head .last .1 .0)
 after-head c = let s = c .before .before .before in omega (arith, long s, room s)
 
 after-entries : (c : tie.After-entries) →
@@ -51,7 +51,7 @@ written c =
 head-requires : tie.Need-head-requires
 head-requires c κs =
     let s = c .before .before in
-    omega (arith, simp (length-append, length-field) at (long s), room s)
+    (omega (arith, long s, room s), s .pre .0 .numbers-in)
 
 entries-requires : tie.Need-entries-requires
 entries-requires c κs =
@@ -62,7 +62,7 @@ patterns-requires : tie.Need-patterns-requires
 patterns-requires c κs =
     let e = c .before .before .before in
     let s = e .before .before .before .before .before .before .before in
-    rw (add-one (s .args .n)) (after-entries e, s .pre .0 .start-in, s .pre .0 .target-in)
+    rw (add-one (s .args .n)) (after-entries e, s .pre .0 .patterns-in)
 
 fill-requires : tie.Need-fill-requires
 fill-requires c κs =

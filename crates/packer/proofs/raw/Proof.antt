@@ -11,7 +11,7 @@ use mir.Syntax.{w64}
 use mir.Val.{SFits}
 use mir.ValLaws.{toZ-ofZ}
 use Rattle.ints.proofs.Integers.{ints, pos-ud, sub-ud, abs-ud, fits}
-use Rattle.model.specs.Writing.{rawOf}
+use Rattle.model.specs.Packed.{rawOf}
 use Rattle.packer.proofs.raw.Statement.{statement}
 use Rattle.packer.proofs.raw.Tie as tie
 

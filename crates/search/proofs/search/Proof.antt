@@ -1,145 +1,46 @@
--- Cycle after cycle; the two halves change places.
+-- The table has room, by the departures.
 use borrow.Author.Needs.{needs}
-use borrow.Author.Tests.{ltb-true, ltb-false}
 use native.Mathlib.Omega.{arith}
-use native.Mathlib.Numerals.{add-one}
-use Prim.Native.Nat.{_*_, _-_, _≤_}
-use mathlib.Core.Path.{_≡_, refl, sym, ap, _∙_}
-use mathlib.Core.Logic.{⊎-elim}
+use Prim.Native.Nat.{ℕ, _≤_}
 use lib.IntN.{pos}
-use lib.ListN.{length, length-replicate}
-use Rattle.model.specs.Sizes.{zoneSize}
-use Rattle.model.specs.Search.{lists}
-use Rattle.model.specs.Answers.{answered}
-use Rattle.lists.specs.Lists.{seenSize}
-use Rattle.search.specs.Searching.{Searchable}
-use Rattle.search.proofs.Searching.{Reached, target-meets, zone-room, begun, source-in, dried, past, stepping, ended, onward}
+use lib.ListN.{length, replicate, length-replicate}
+use Rattle.lists.specs.Lists.{setsMet}
+use Rattle.lists.proofs.Lengths.{small-room, middle-room, large-room}
 use Rattle.search.proofs.search.Statement.{statement}
 use Rattle.search.proofs.search.Tie as tie
 
-abbrev Inv-loop : tie.InvT-loop
-Inv-loop work₀ capacity times start target n parts end last half count₀ seen₀ source₀ k₀ work count seen source k =
-    (q : Searchable n parts capacity last (length work₀) times start target)
-    × Reached q work count source k × (half ≡ capacity * zoneSize n) × (length seen ≡ seenSize)
+-- an array of so many numbers
+made : (size needed : ℕ) → needed ≤ size → needed ≤ length (replicate size (pos 0))
+made size needed h = rw length-replicate h
 
-abbrev μ-loop : tie.MeasureT-loop
-μ-loop work₀ capacity times start target n parts end last half count₀ seen₀ source₀ k₀ work count seen source k = last - k
+search-with-requires : tie.Need-search-with-requires
+unfolding setsMet
+search-with-requires c κs = let b = c .before .before in (b .before .pre, made _ _ (small-room (b .if1 .taken)))
 
-zone-size-requires : tie.Need-zone-size-requires Inv-loop μ-loop
-zone-size-requires c κs = c .pre .table .departures .few
+search-with-requires-2 : tie.Need-search-with-requires-2
+unfolding setsMet
+search-with-requires-2 c κs = let b = c .before .before in (b .before .before .pre, made _ _ (middle-room (b .if2 .taken)))
 
-mul-half : tie.Need-mul-half Inv-loop μ-loop
-mul-half c = rw (c .zone-size .ensures) (omega (arith, c .before .pre .long, c .before .good .0))
-
-first-list-requires : tie.Need-first-list-requires Inv-loop μ-loop
-first-list-requires c κs = let q = c .before .before .pre in (target-meets q, zone-room q)
-
-loop-holds : tie.Need-loop-holds Inv-loop μ-loop
-unfolding lists
-loop-holds c =
-    let f = c .before in
-    let z = f .before .before in
-    let q = rw (← (f .first-list .kept .0)) at (z .before .pre) in (
-      q,
-      begun q refl (f .first-list .ensures .list) (f .first-list .ensures .few),
-      ap (_*_ (z .before .args .capacity)) (z .zone-size .ensures),
-      length-replicate seenSize (pos 0),
-    )
-
--- a zone is left
-some-zone : (c : tie.Then1 Inv-loop μ-loop) → 1 ≤ c .before .before .loop .count
-some-zone c = ltb-true 0 _ (c .if1 .taken)
-
-sub-goal : tie.Need-sub-goal Inv-loop μ-loop
-sub-goal c = let i = c .before .before .loop .inv in omega (arith, source-in (i .0) (i .1), i .2)
-
-add-k : tie.Need-add-k Inv-loop μ-loop
-add-k c = let q = c .before .before .loop .inv .0 in omega (arith, q .limits .few-cycles, q .within, c .before .loop-test .taken)
-
-slice-aggregate-one-cycle : tie.Need-slice-aggregate-one-cycle Inv-loop μ-loop
-slice-aggregate-one-cycle c = sym (c .before .before .before .before .loop .inv .3)
-
-one-cycle-requires : tie.Need-one-cycle-requires Inv-loop μ-loop
-one-cycle-requires c κs =
-    let z = c .before .before in
-    let i = z .before .before .loop .inv in
-    rw (i .2) (stepping (i .0) (i .1) (some-zone z) (z .before .loop-test .taken) (i .3))
-
-same-length : tie.Need-same-length Inv-loop μ-loop
-same-length c =
-    let o = c .before .before .before .before in
-    let l = o .before .before .before .before .before in
-    o .one-cycle .kept .0 ∙ l .loop .inv .1 .long ∙ l .before .before .first-list .kept .0
-
-returns : tie.Need-returns Inv-loop μ-loop
-returns c =
-    let o = c .before .before .before .before in
-    let z = o .before .before .before in
-    let l = z .before .before in
-    let i = l .loop .inv in
-    let said = rw (add-one (l .loop .k), i .2) at (o .one-cycle .ensures) in
-    ended (i .0) (i .1) (some-zone z) (z .before .loop-test .taken) said _ (c .before .if2 .taken)
-
-loop-less : tie.Need-loop-less Inv-loop μ-loop
-loop-less c = let i = c .before .before .before .before .before .before .before .loop-test .taken in omega arith
-
-loop-again : tie.Need-loop-again Inv-loop μ-loop
-loop-again c =
-    let o = c .before .before .before in
-    let z = o .before .before .before in
-    let l = z .before .before in
-    let i = l .loop .inv in
-    let said = rw (add-one (l .loop .k), i .2) at (o .one-cycle .ensures) in
-    let r = onward (i .0) (i .1) (some-zone z) (z .before .loop-test .taken) said (c .if2 .left) (o .one-cycle .kept .0) in
-    (i .0, rw (add-one (l .loop .k), i .2) r, i .2, o .one-cycle .kept .1 .1 .1 .1 .1 .1 .1 .0 ∙ i .3)
-
-plain-requires : tie.Need-plain-requires Inv-loop μ-loop
-plain-requires c κs = search needs
-
-same-length-2 : tie.Need-same-length-2 Inv-loop μ-loop
-same-length-2 c = let l = c .before .before .before in l .loop .inv .1 .long ∙ l .before .before .first-list .kept .0
-
-returns-2 : tie.Need-returns-2 Inv-loop μ-loop
-returns-2 c =
-    let i = c .before .before .before .loop .inv in
-    c .plain .ensures ∙ ap answered (sym (dried (i .0) (i .1) (c .before .if3 .taken) _))
-
-past-requires : tie.Need-past-requires Inv-loop μ-loop
-past-requires c κs = search needs
-
-same-length-3 : tie.Need-same-length-3 Inv-loop μ-loop
-same-length-3 c = let l = c .before .before .before in l .loop .inv .1 .long ∙ l .before .before .first-list .kept .0
-
--- a zone is left, so the loop ended past the last cycle
-returns-3 : tie.Need-returns-3 Inv-loop μ-loop
-returns-3 c =
-    let l = c .before .before .before in
-    let i = l .loop .inv in
-    let zone : 1 ≤ l .loop .count = let h = c .before .if3 .left in omega arith in
-    c .past .ensures ∙ ap answered (sym (past (i .0) (l .loop .k) (i .1) zone
-    (⊎-elim (λ h. absurd (omega (arith, ltb-false 0 (l .loop .count) (h .1 .left)))) (λ h. h .left) (c .before .before .loop-test .came)) _))
+search-with-requires-3 : tie.Need-search-with-requires-3
+unfolding setsMet
+search-with-requires-3 c κs =
+    let b = c .before .before in
+    let q = b .before .before .pre in
+    (q, made _ _ (large-room (let h = b .if2 .left in omega arith) (q .table .departures .few)))
 
 pub search-spec : {M : Type 1} → statement M
 search-spec =
     tie.close
     (tie.spec
-    Inv-loop
-    μ-loop
-    zone-size-requires
-    mul-half
-    first-list-requires
-    loop-holds
-    sub-goal
-    add-k
-    slice-aggregate-one-cycle
-    one-cycle-requires
-    same-length
-    returns
-    loop-less
-    loop-again
-    plain-requires
-    same-length-2
-    returns-2
-    past-requires
-    same-length-3
-    returns-3)
+    (λ c. search needs)
+    search-with-requires
+    (λ c. search needs)
+    (λ c. search needs)
+    (λ c. search needs)
+    search-with-requires-2
+    (λ c. search needs)
+    (λ c. search needs)
+    (λ c. search needs)
+    search-with-requires-3
+    (λ c. search needs)
+    (λ c. search needs))

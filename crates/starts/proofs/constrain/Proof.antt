@@ -36,7 +36,7 @@ around c = let t = c .pre .one .taking in not-around (t .closed) (inside t) (c .
 stays : (c : tie.In-loop Inv-loop μ-loop) → ZoneIn (c .before .before .args .n) (c .before .loop .zone)
 stays c =
     let z = zone-of _ (c .before .before .pre .one .taking) in
-    record { departures = z .departures; size = omega (arith, z .size) }
+    record { few = z .few; size = omega (arith, z .size) }
 
 bound-at-requires : tie.Need-bound-at-requires Inv-loop μ-loop
 bound-at-requires c κs =
@@ -72,7 +72,7 @@ relax-row-requires c κs =
     }
 
 add-i : tie.Need-add-i Inv-loop μ-loop
-add-i c = let s = c .before .before .before .before .before .before .before .before in omega (arith, s .pre .one .taking .departures .few)
+add-i c = let s = c .before .before .before .before .before .before .before .before in omega (arith, s .pre .one .taking .few)
 
 loop-again : tie.Need-loop-again Inv-loop μ-loop
 loop-again c =

@@ -34,7 +34,7 @@ bound-at-requires c κs =
     record { zone = p .zone; row = omega (arith, p .to-n); col = omega (arith, p .to-n, l .loop .inv .0 .upto) }
 
 few : (s : tie.Start Inv-loop μ-loop) → s .args .t ≤ mostDepartures
-few s = omega (arith, s .pre .to-n, s .pre .zone .departures .few)
+few s = omega (arith, s .pre .to-n, s .pre .departures .few)
 
 -- the time of the departure before t, and its negation
 near : (c : tie.After-clocked Inv-loop μ-loop) → natAbs (c .clocked .result .0) ≤ c .before .before .before .args .t * Largest

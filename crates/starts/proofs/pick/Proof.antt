@@ -16,25 +16,27 @@ loop-holds : tie.Need-loop-holds Inv-loop μ-loop
 loop-holds c = picking-start _ _ _
 
 next-time-requires : tie.Need-next-time-requires Inv-loop μ-loop
-next-time-requires c κs = record { zone = c .before .before .pre; to-n = c .loop-test .taken; small = times-small (c .before .loop .inv) }
+next-time-requires c κs =
+    let (departures, zone) = c .before .before .pre in
+    record { departures = departures; zone = zone; to-n = c .loop-test .taken; small = times-small (c .before .loop .inv) }
 
 sub-times : tie.Need-sub-times Inv-loop μ-loop
 sub-times c = omega (arith, c .before .before .loop .inv .count)
 
 mul-times : tie.Need-mul-times Inv-loop μ-loop
-mul-times c = omega (arith, c .before .before .before .pre .departures .few)
+mul-times c = omega (arith, c .before .before .before .pre .0 .few)
 
 array-set-from-times : tie.Need-array-set-from-times Inv-loop μ-loop
-array-set-from-times c = omega (arith, c .before .before .before .pre .departures .few)
+array-set-from-times c = omega (arith, c .before .before .before .pre .0 .few)
 
 add-t : tie.Need-add-t Inv-loop μ-loop
-add-t c = omega (arith, c .before .before .before .pre .departures .few)
+add-t c = omega (arith, c .before .before .before .pre .0 .few)
 
 loop-again : tie.Need-loop-again Inv-loop μ-loop
 loop-again c =
     let l = c .before in
     let q = c .next-time .ensures in
-    picking-step (l .before .loop .inv) (c .next-time .result) (l .loop-test .taken) (l .before .before .pre .departures .few) (q .small) (q .is)
+    picking-step (l .before .loop .inv) (c .next-time .result) (l .loop-test .taken) (l .before .before .pre .0 .few) (q .small) (q .is)
 
 returns : tie.Need-returns Inv-loop μ-loop
 returns c = picking-done (c .before .loop .inv) (omega arith)

@@ -12,24 +12,25 @@ use Rattle.starts.proofs.picked.Statement.{statement}
 use Rattle.starts.proofs.picked.Tie as tie
 
 tightened-requires : tie.Need-tightened-requires
-tightened-requires c κs = (all-ready _ (c .before .before .pre) (c .all-times .ensures .0), c .all-times .ensures .1)
+tightened-requires c κs = (c .before .before .pre .departures, all-ready _ (c .before .before .pre) (c .all-times .ensures .0), c .all-times .ensures .1)
 
 array-share-prefix-zone : tie.Need-array-share-prefix-zone
 array-share-prefix-zone c =
     let z = c .before .before in
-    part-room (z .before .pre .source .departures) (z .zone-size .ensures) (c .tightened .result) (c .tightened .ensures .long)
+    part-room (z .before .pre .departures) (z .zone-size .ensures) (c .tightened .result) (c .tightened .ensures .long)
 
 slice-aggregate-pick : tie.Need-slice-aggregate-pick
 slice-aggregate-pick c =
     let t = c .before in
     let z = t .before .before in
-    sym (part-long (z .before .pre .source .departures) (z .zone-size .ensures) (t .tightened .result) (t .tightened .ensures .long))
+    sym (part-long (z .before .pre .departures) (z .zone-size .ensures) (t .tightened .result) (t .tightened .ensures .long))
 
 pick-requires : tie.Need-pick-requires
 pick-requires c κs =
     let t = c .before in
     let z = t .before .before in
-    part-zone (z .before .pre .source .departures) (z .zone-size .ensures) (t .tightened .result) (t .tightened .ensures .long)
+    let d = z .before .pre .departures in
+    (d, part-zone d (z .zone-size .ensures) (t .tightened .result) (t .tightened .ensures .long))
 
 returns : tie.Need-returns
 returns c =
@@ -39,7 +40,7 @@ returns c =
     let left = rw (t .before .all-times .ensures .0) at (t .tightened .ensures .left) in
     c .pick .ensures
     ∙ ap (λ (numbers : List ℤ). allTimes (pick (s .args .n) (boundsIn numbers)))
-    (part-is (s .pre .source .departures) (z .zone-size .ensures) (t .tightened .result) (t .tightened .ensures .long))
+    (part-is (s .pre .departures) (z .zone-size .ensures) (t .tightened .result) (t .tightened .ensures .long))
     ∙ ap allTimes (start-is (s .args .n) (boundsIn (s .args .bounds .now)) _ left)
 
 pub picked-spec : {M : Type 1} → statement M

@@ -18,18 +18,18 @@ use Rattle.starts.proofs.start.Tie as tie
 in-parts-requires : tie.Need-in-parts-requires
 in-parts-requires c κs =
     let p = c .before .pre in
-    (let h = zone-fits (p .source .departures) in omega (arith, p .source .size), p .few-parts)
+    (let h = zone-fits (p .departures) in omega (arith, p .source .size), p .few-parts)
 
 array-share-prefix-bounds : tie.Need-array-share-prefix-bounds
 array-share-prefix-bounds c =
     let z = c .before in
-    part-room (z .before .pre .source .departures) (z .zone-size .ensures) (c .in-parts .result) (c .in-parts .ensures .long)
+    part-room (z .before .pre .departures) (z .zone-size .ensures) (c .in-parts .result) (c .in-parts .ensures .long)
 
 slice-aggregate-picked : tie.Need-slice-aggregate-picked
 slice-aggregate-picked c =
     let p = c .before in
     let z = p .before in
-    sym (part-long (z .before .pre .source .departures) (z .zone-size .ensures) (p .in-parts .result) (p .in-parts .ensures .long))
+    sym (part-long (z .before .pre .departures) (z .zone-size .ensures) (p .in-parts .result) (p .in-parts .ensures .long))
 
 -- the bounds are the zone's, in parts
 there : (c : tie.After-in-parts) →
@@ -45,7 +45,7 @@ picked-requires c κs =
     let p = c .before in
     let z = p .before in
     let pre = z .before .pre in
-    bounds-ready pre _ (there p) (part-zone (pre .source .departures) (z .zone-size .ensures) (p .in-parts .result) (p .in-parts .ensures .long))
+    bounds-ready pre _ (there p) (part-zone (pre .departures) (z .zone-size .ensures) (p .in-parts .result) (p .in-parts .ensures .long))
 
 returns : tie.Need-returns
 returns c =

@@ -39,7 +39,7 @@ take-row-requires c κs =
     }
 
 add-i : tie.Need-add-i Inv-loop μ-loop
-add-i c = let s = c .before .before .before .before .before in omega (arith, s .pre .source .departures .few)
+add-i c = let s = c .before .before .before .before .before in omega (arith, s .pre .source .few)
 
 loop-again : tie.Need-loop-again Inv-loop μ-loop
 loop-again c =

@@ -38,7 +38,7 @@ constrain-requires c κs =
     }
 
 add-j : tie.Need-add-j Inv-loop μ-loop
-add-j c = let s = c .before .before .before .before .before .before in omega (arith, s .pre .ready .source .departures .few)
+add-j c = let s = c .before .before .before .before .before .before in omega (arith, s .pre .ready .source .few)
 
 loop-again : tie.Need-loop-again Inv-loop μ-loop
 loop-again c =

@@ -1,20 +1,21 @@
 -- The case is put in memory and searched; then every number of the workspace is set to 0.
 use borrow.Author.Needs.{needs}
 use native.Mathlib.Omega.{arith}
-use mathlib.Core.Path.{sym, ap, _∙_}
+use mathlib.Core.Path.{_≡_, sym, ap, _∙_}
 use Prim.Native.Nat.{ℕ}
 use lib.IntN.{pos}
 use lib.ListN.{length, replicate}
 use lib.Seq.{length-take-le}
+use Rattle.model.specs.Network.{repeatOf}
 use Rattle.model.specs.Faults.{network}
 use Rattle.model.specs.Search.{plan}
 use Rattle.model.specs.Conditions.{Departures}
 use Rattle.model.proofs.Limits.{limits-of}
 use Rattle.model.proofs.Places.{table-fits, pattern-fits}
-use Rattle.powers.proofs.Places.{of-case}
+use Rattle.powers.specs.Readings.{repeatRead}
 use Rattle.verdict.specs.Planning.{Planned}
 use Rattle.verdict.proofs.Within.{CaseIn, table-room, pattern-room, in-pattern, departures, times-in-limit, start-in-limit, target-in-limit}
-use Rattle.verdict.proofs.Within.{powers-ready, counted, searchable, planned, found, plan-within}
+use Rattle.verdict.proofs.Within.{counted, searchable, powers-ready, repeat-is, planned, found, plan-within}
 use Rattle.verdict.proofs.searched.Statement.{statement}
 use Rattle.verdict.proofs.searched.Tie as tie
 
@@ -100,17 +101,27 @@ differences-requires c κs =
 
 first-repeat-requires : tie.Need-first-repeat-requires
 first-repeat-requires c κs =
-    let a = c .before .before .before .before .before .before .before .before .before .before .before .before in
-    powers-ready (a .args .case) (a .args .capacity) _ (a .pre)
+    let m = c .before .before .before .before in
+    let t = m .before .before .before .before .before .before .before in
+    let a = t .before in
+    rw (t .table-size .ensures) (powers-ready (a .args .case) (a .args .capacity) _ (a .pre) (in-memory m))
+
+-- what is found is the first repeated power of the case
+repeated-is : (c : tie.After-first-repeat) →
+    let m = c .before .before .before .before .before in
+    repeatRead (c .first-repeat .result) ≡ repeatOf (network (m .before .before .before .before .before .before .before .before .args .case))
+repeated-is c =
+    let m = c .before .before .before .before .before in
+    let t = m .before .before .before .before .before .before .before in
+    let a = t .before in
+    (rw (t .table-size .ensures) at (c .first-repeat .ensures)) ∙ repeat-is (a .args .case) (a .args .capacity) _ (a .pre) (in-memory m)
 
 plan-of-requires : tie.Need-plan-of-requires
 unfolding network
 plan-of-requires c κs =
     let a = c .before .before .before .before .before .before .before .before .before .before .before .before .before in
-    let w = a .args .case in (
-      λ again e. counted w (a .args .capacity) _ (a .pre) again (sym (c .first-repeat .ensures ∙ of-case w) ∙ e),
-      limits-of w (a .args .capacity) _ (a .pre) .few-cycles,
-    )
+    let w = a .args .case in
+    (λ again e. counted w (a .args .capacity) _ (a .pre) again (sym (repeated-is c) ∙ e), limits-of w (a .args .capacity) _ (a .pre) .few-cycles)
 
 -- the searched horizon
 plan-made : (c : tie.After-plan-of) →
@@ -123,7 +134,7 @@ plan-made c =
     let p = m .before .before .before .before .before .before in
     let a = p .before .before in
     let free = rw (p .pattern-size .ensures) at (d .differences .ensures) in
-    planned (a .args .case) (a .args .capacity) _ (a .pre) (in-memory m) (f .first-repeat .result) _ (f .first-repeat .ensures) free (c .plan-of .ensures)
+    planned (a .args .case) (a .args .capacity) _ (a .pre) (in-memory m) (f .first-repeat .result) _ (repeated-is f) free (c .plan-of .ensures)
 
 search-requires : tie.Need-search-requires
 unfolding network

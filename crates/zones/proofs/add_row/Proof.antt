@@ -26,7 +26,7 @@ module _ {n : ℕ} {part times zone : List ℤ} {cols : List ℕ} {i s : ℕ} (r
 
   whole : Toward n Limit (boundsIn part) row (boundsIn part) row
   whole = toward-start (record {
-    departures = r .table .departures;
+    few = r .source .few;
     closed = r .set .closed;
     fits = of-row _ n (timesIn times) (boundsIn zone) cols i s (row-fits n (timesIn times) (boundsIn zone) (r .columns) (adds .column));
     fitting = r .fitting;

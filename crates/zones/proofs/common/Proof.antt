@@ -27,7 +27,7 @@ unfolding patternConstraints
 loop-holds c =
     let n = c .args .n in
     let fits = pattern-fits n (boundsIn (c .args .pattern .now)) in (
-      toward-start (record { departures = c .pre .limits .departures; closed = c .pre .set .closed; fits = fits; fitting = c .pre .fitting })
+      toward-start (record { few = c .pre .set .zone .few; closed = c .pre .set .closed; fits = fits; fitting = c .pre .fitting })
           (ap flatten (from-first _ (suc n) 0 (suc n) (omega arith))),
       omega arith,
       refl,

@@ -52,7 +52,7 @@ loop-holds c = (rows-start _ _ _, omega arith, omega arith)
 -- the zone keeps its length
 stays : (c : tie.In-loop Inv-loop μ-loop) → ZoneIn (c .before .before .before .before .before .before .before .args .n) (c .before .loop .zone)
 stays c = let z = zone-of _ (c .before .before .before .before .before .before .before .pre .taking) in
-    record { departures = z .departures; size = omega (arith, z .size) }
+    record { few = z .few; size = omega (arith, z .size) }
 
 bound-at-requires-2 : tie.Need-bound-at-requires-2 Inv-loop μ-loop
 bound-at-requires-2 c κs =
@@ -93,7 +93,7 @@ relax-row-requires c κs =
 add-i : tie.Need-add-i Inv-loop μ-loop
 add-i c =
     let s = c .before .before .before .before .before .before .before .before .before .before .before .before .before in
-    omega (arith, s .pre .taking .departures .few)
+    omega (arith, s .pre .taking .few)
 
 loop-again : tie.Need-loop-again Inv-loop μ-loop
 loop-again c =

@@ -3,7 +3,7 @@ use borrow.Author.Needs.{needs}
 use Rattle.model.specs.Bound.{any}
 use Rattle.memory.specs.Numbers.{ofHalves}
 use Rattle.memory.proofs.Relaxing.{inside, all-left}
-use Rattle.zones.specs.Inner.{TakingOne}
+use Rattle.zones.specs.Conditions.{TakingOne}
 use Rattle.zones.proofs.Leaving.{is-kept, zone-of}
 use Rattle.zones.proofs.take_in.Statement.{statement}
 use Rattle.zones.proofs.take_in.Tie as tie

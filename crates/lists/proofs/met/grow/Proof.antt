@@ -1,6 +1,6 @@
 -- The set of the row before is copied to the free place, which then takes in what the row adds.
 use borrow.Author.Needs.{needs}
-use mathlib.Core.Path.{_≡_, sym, _∙_}
+use mathlib.Core.Path.{_≡_}
 use lib.Seq.{paste}
 use Prim.Native.Nat.{_*_, _-_}
 use Rattle.model.specs.Sizes.{zoneSize}
@@ -33,9 +33,9 @@ copy-requires c κs =
 -- the copy
 copied : (c : tie.After-copy) →
     let a = c .before .before .before .before .before .before .before .args in
-    let here = freeAt (a .counts .now) (a .i) in
+    let here = freeAt (a .n) (a .counts .now) (a .i) in
     let size = zoneSize (a .n) in
-    c .copy .last .0 ≡ paste (a .seen .now) (here * size) (numbersAt size (a .seen .now) (freeAt (a .counts .now) (a .i - 1))) size
+    c .copy .last .0 ≡ paste (a .seen .now) (here * size) (numbersAt size (a .seen .now) (freeAt (a .n) (a .counts .now) (a .i - 1))) size
 copied c =
     let f = c .before .before in
     rw (f .before .before .zone-size .ensures, f .before .free .ensures, f .free2 .ensures) at (c .copy .ensures)
@@ -46,7 +46,7 @@ add-at-requires c κs =
     let f = k .before .before in
     let b = f .before .before .before .before .before in
     let u = b .pre .ready in
-    let here = freeAt (b .args .counts .now) (b .args .i) in
+    let here = freeAt (b .args .n) (b .args .counts .now) (b .args .i) in
     rw (f .free2 .ensures)
     (add-ready u here (rw (k .copy .kept .0) (here-fits u)) (rw (copied k) (copied-at u (b .args .seen .now) here (here-fits u))) (b .pre .column))
 
@@ -60,7 +60,7 @@ returns c =
     let f = k .before .before in
     let b = f .before .before .before .before .before in
     let u = b .pre .ready in
-    let here = freeAt (b .args .counts .now) (b .args .i) in
+    let here = freeAt (b .args .n) (b .args .counts .now) (b .args .i) in
     let at-place = rw (f .free2 .ensures) at (t .add-at .ensures) in
     let there = rw (← (copied k)) at (copied-at u (b .args .seen .now) here (here-fits u)) in
     record {

@@ -20,8 +20,8 @@ abbrev μ-loop : tie.MeasureT-loop
 add-end : tie.Need-add-end Inv-loop μ-loop
 add-end c = search needs
 
-sub-if1 : tie.Need-sub-if1 Inv-loop μ-loop
-sub-if1 c = search needs
+add-if1 : tie.Need-add-if1 Inv-loop μ-loop
+add-if1 c = search needs
 
 returns : tie.Need-returns Inv-loop μ-loop
 unfolding bits
@@ -78,7 +78,7 @@ bits-spec =
     Inv-loop
     μ-loop
     add-end
-    sub-if1
+    add-if1
     returns
     loop-holds
     mul-v

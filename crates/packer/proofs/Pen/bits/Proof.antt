@@ -5,7 +5,7 @@ use borrow.Author.Needs.{needs}
 use mathlib.Core.Path.{_≡_}
 use mathlib.Core.List.{[], append-nil}
 use lib.Pow.{pow-mono, pow-pos, shl-exact, shr-lt}
-use Rattle.model.specs.Sizes.{boundWidth}
+use Rattle.model.specs.Sizes.{mostWidth}
 use Rattle.model.specs.Writing.{fieldBits}
 use Rattle.packer.specs.Ink.{Extends}
 use Rattle.packer.proofs.Spelling.{power}
@@ -15,7 +15,7 @@ use Rattle.packer.proofs.Pen.bits.Tie as tie
 
 abbrev Inv-loop : tie.InvT-loop
 Inv-loop out₀ width value full₀ held₀ part₀ out full held part =
-    (held < 8 + boundWidth) × Extends [] (record { full = full₀; held = held₀; part = part₀ }) out₀ (record { full = full; held = held; part = part }) out
+    (held < 8 + mostWidth) × Extends [] (record { full = full₀; held = held₀; part = part₀ }) out₀ (record { full = full; held = held; part = part }) out
 
 abbrev μ-loop : tie.MeasureT-loop
 μ-loop out₀ width value full₀ held₀ part₀ out full held part = held
