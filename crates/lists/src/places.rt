@@ -16,15 +16,13 @@ fn equal(a: i32, b: i32) -> bool
     a == b
 }
 
-// Zone k of the list is this one. The last bounds are compared first: the first ones are the clock's, and more often equal.
+// Zone k of the list is this one.
 fn same(list: &[i32], k: usize, zone: &[i32], size: usize) -> bool
     requires { ⌜ (length (now zone) ≡ size) × (k * size + size ≤ length (now list)) ⌝ }
     ensures { λ r. ⌜ r ≡ sameMatrix (boundsIn (now (zone .entry))) (zoneAt size (now (list .entry)) k) ⌝ }
 {
     let base = k * size;
-    let mut p = size;
-    while 0 < p {
-        p -= 1;
+    for p in 0..size {
         let a = zone[p];
         let b = list[base + p];
         if !equal(a, b) {

@@ -57,9 +57,9 @@ boundIn-injective a b e = go (sameZ a (pos noneIn)) (sameZ b (pos noneIn)) refl 
 pub length-numbers : (size : ℕ) (list : List ℤ) (k : ℕ) → k * size + size ≤ length list → length (numbersAt size list k) ≡ size
 length-numbers size list k inside = rw (length-take size (drop (k * size) list), length-drop (k * size) list) (omega arith)
 
--- ---- a zone against that at place k, the last number first
-abbrev pub SameFrom : ℕ → List ℤ → ℕ → List ℤ → ℕ → Type 0
-SameFrom size list k zone p = (q : ℕ) → p ≤ q → q < size → getD zone q (pos 0) ≡ getD list (k * size + q) (pos 0)
+-- ---- the first p numbers of a zone against those at place k
+abbrev pub SameUpto : ℕ → List ℤ → ℕ → List ℤ → ℕ → Type 0
+SameUpto size list k zone p = (q : ℕ) → q < p → getD zone q (pos 0) ≡ getD list (k * size + q) (pos 0)
 
 module _ (size : ℕ) (list : List ℤ) (k : ℕ) (zone : List ℤ) (fits : length zone ≡ size) (inside : k * size + size ≤ length list) where
   abbrev there : List ℤ
@@ -71,18 +71,18 @@ module _ (size : ℕ) (list : List ℤ) (k : ℕ) (zone : List ℤ) (fits : leng
   getD-there : (p : ℕ) → p < size → getD there p (pos 0) ≡ getD list (k * size + p) (pos 0)
   getD-there p h = getD-take size (drop (k * size) list) p (pos 0) h ∙ getD-drop (k * size) list p (pos 0)
 
-  pub same-more : {p : ℕ} → 1 ≤ p → SameFrom size list k zone p → sameZ (getD zone (p - 1) (pos 0)) (getD list (k * size + (p - 1)) (pos 0)) ≡ true
-      → SameFrom size list k zone (p - 1)
-  same-more {p} h same e q l u = elim (ℕ-discrete q (p - 1)) [
+  pub same-more : {p : ℕ} → SameUpto size list k zone p → sameZ (getD zone p (pos 0)) (getD list (k * size + p) (pos 0)) ≡ true
+      → SameUpto size list k zone (p + 1)
+  same-more {p} same e q h = elim (ℕ-discrete q p) [
     | yes is ↦ rw is (sameZ-true _ _ e)
-    | no other ↦ same q (omega arith) u
+    | no other ↦ same q (omega arith)
   ]
 
-  pub all-same : SameFrom size list k zone 0 → sameMatrix (boundsIn zone) (zoneAt size list k) ≡ true
+  pub all-same : SameUpto size list k zone size → sameMatrix (boundsIn zone) (zoneAt size list k) ≡ true
   unfolding zoneAt
   all-same same =
       let long : length zone ≡ length there = fits ∙ sym there-long in
-      let is : zone ≡ there = ext-getD (pos 0) zone there long (λ q u. same q (omega arith) (omega arith) ∙ sym (getD-there q (omega arith))) in
+      let is : zone ≡ there = ext-getD (pos 0) zone there long (λ q u. same q (omega arith) ∙ sym (getD-there q (omega arith))) in
       rw is (sameMatrix-refl (boundsIn there))
 
   pub one-other : (p : ℕ) → p < size → sameZ (getD zone p (pos 0)) (getD list (k * size + p) (pos 0)) ≡ false
