@@ -117,6 +117,13 @@ uint32_t tramcheck_write(size_t n, size_t horizon, const uint8_t present[TRAMCHE
 uint32_t tramcheck_write_wide(size_t n, size_t horizon, const uint8_t present[TRAMCHECK_ENTRIES], const uint8_t strict[TRAMCHECK_ENTRIES],
                               const int64_t values[TRAMCHECK_ENTRIES], uint8_t *out, size_t out_length, size_t *fault, size_t *value);
 
+/* Converts a packed case in the old form to the wide form, and back where that loses nothing; the bytes go to the front of out, and those behind stay as
+ * they were. Returns TRAMCHECK_DONE, with the number of bytes in *value, or TRAMCHECK_REFUSED for the faults of reading that form, 2 if the case is in the
+ * other form; going back for 16, with n over 7 at bit 3 or the first strict bound at its field's bit; then for 14, an out that is too short. A refusal
+ * leaves all of out as it was. There and back gives the same bytes, and so does back and there. */
+uint32_t tramcheck_to_wide(const uint8_t *bytes, size_t length, uint8_t *out, size_t out_length, size_t *fault, size_t *value);
+uint32_t tramcheck_to_old(const uint8_t *bytes, size_t length, uint8_t *out, size_t out_length, size_t *fault, size_t *value);
+
 /* Reads a packed case of either form and hands it back unpacked: 1 in present where an entry is there, else 0, and 0 in values where there is none; 1 in
  * strict where a bound is strict, else 0, so that in the old form it is 0 all over. Places are bit numbers. Returns TRAMCHECK_DONE, with the number of
  * bytes in *value, or TRAMCHECK_REFUSED, and then n, the horizon and every entry are 0. */

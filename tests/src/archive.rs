@@ -70,7 +70,8 @@ pub struct Unknown {
     pub value: usize,
 }
 
-// The functions by the header's names, and the names that it gives the linker.
+// The functions by the header's names, and the names that it gives the linker
+// where they are others.
 extern "C" {
     #[link_name = "tramcheck_verdict_15"]
     fn tramcheck_verdict(
@@ -142,6 +143,22 @@ extern "C" {
         present: *const u8,
         strict: *const u8,
         values: *const i64,
+        out: *mut u8,
+        out_length: usize,
+        fault: *mut usize,
+        value: *mut usize,
+    ) -> u32;
+    fn tramcheck_to_wide(
+        bytes: *const u8,
+        length: usize,
+        out: *mut u8,
+        out_length: usize,
+        fault: *mut usize,
+        value: *mut usize,
+    ) -> u32;
+    fn tramcheck_to_old(
+        bytes: *const u8,
+        length: usize,
         out: *mut u8,
         out_length: usize,
         fault: *mut usize,
@@ -406,6 +423,30 @@ pub fn write_entries(
             entries.present.as_ptr(),
             entries.strict.as_ptr(),
             entries.values.as_ptr(),
+            out.as_mut_ptr(),
+            out.len(),
+            &mut results.fault,
+            &mut results.value,
+        )
+    };
+    results.bytes(kind)
+}
+
+/// Converts a packed case to a form from the other one, to the front of `out`: how
+/// many bytes, or the fault, 2 where the case is in this form already, and 16 where
+/// the old form has no place for it. With an `out` of length 0 fault 14 tells how
+/// many are needed.
+pub fn convert(to: Form, bytes: &[u8], out: &mut [u8]) -> Result<Result<usize, Fault>, Unknown> {
+    let convert = match to {
+        Form::Old => tramcheck_to_old,
+        Form::Wide => tramcheck_to_wide,
+    };
+    let mut results = Results::new();
+    // The pointers are good as in `verdict`.
+    let kind = unsafe {
+        convert(
+            bytes.as_ptr(),
+            bytes.len(),
             out.as_mut_ptr(),
             out.len(),
             &mut results.fault,

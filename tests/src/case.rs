@@ -56,6 +56,14 @@ impl Form {
             Form::Wide => DEPARTURES,
         }
     }
+
+    /// The form that a case is converted from to get this one.
+    pub fn other(self) -> Form {
+        match self {
+            Form::Old => Form::Wide,
+            Form::Wide => Form::Old,
+        }
+    }
 }
 
 /// A case. Entries stand in packed order for this n, from place 0 on; what
@@ -204,4 +212,11 @@ impl Writer {
         }
         bytes
     }
+}
+
+/// The bytes of bits that are written out, with the fill; blanks are left out.
+pub fn packed_bits(written: &str) -> Vec<u8> {
+    let bits = written.bytes().filter(|&bit| bit != b' ');
+    let bits = bits.map(|bit| bit == b'1').collect();
+    Writer { bits }.bytes()
 }

@@ -56,10 +56,11 @@ pub fn of_unpacked(case: &Case, capacity: usize, work_length: usize) -> Answer {
     }
 }
 
-/// Numbers on each side of a lent workspace that no call may touch.
+/// Numbers or bytes on each side of what is lent that no call may touch.
 const GUARD: usize = 16;
 
 /// A workspace full of numbers other than 0, between two guards.
+#[derive(Clone, Debug, PartialEq, Eq)]
 pub struct Lent {
     all: Vec<i32>,
     before: Vec<i32>,
@@ -102,6 +103,37 @@ impl Lent {
                 None => Ok(()),
             },
         }
+    }
+}
+
+/// An output full of random bytes, between two guards.
+pub struct Output {
+    all: Vec<u8>,
+    before: Vec<u8>,
+}
+
+impl Output {
+    pub fn new(random: &mut Random, length: usize) -> Output {
+        let all: Vec<u8> = (0..length + 2 * GUARD)
+            .map(|_| random.draw() as u8)
+            .collect();
+        Output {
+            before: all.clone(),
+            all,
+        }
+    }
+
+    /// The part that is lent.
+    pub fn part(&mut self) -> &mut [u8] {
+        let end = self.all.len() - GUARD;
+        &mut self.all[GUARD..end]
+    }
+
+    /// Whether the part begins with these bytes and all else is as it was.
+    pub fn holds(&self, bytes: &[u8]) -> bool {
+        let mut expected = self.before.clone();
+        expected[GUARD..GUARD + bytes.len()].copy_from_slice(bytes);
+        self.all == expected
     }
 }
 

@@ -109,6 +109,63 @@ fn damage_bytes(random: &mut Random, bytes: &mut Vec<u8>) {
     }
 }
 
+/// A byte with which a case of a form begins; n is mostly 1 or 2.
+fn first_byte(random: &mut Random, form: Form) -> u8 {
+    let small = 1 + random.below(2) as u8;
+    let any = random.draw() as u8;
+    match form {
+        Form::Old => small << 5 | any & 31,
+        Form::Wide if random.chance(2, 3) => small << 1 | any & 1,
+        Form::Wide => any & 31,
+    }
+}
+
+/// Bytes of any kind, 0 to `most` of them; the first often names a small n.
+pub fn any_bytes(random: &mut Random, form: Form, most: usize) -> Vec<u8> {
+    let length = random.below(most + 1);
+    let ones = random.one_of(&[0, 1, 2, 3]);
+    let mut bytes: Vec<u8> = Vec::with_capacity(length);
+    for _ in 0..length {
+        // Fewer bits of 1 make fewer entries, so that more fields are read.
+        let byte = (0..ones).fold(random.draw() as u8, |byte, _| byte & random.draw() as u8);
+        bytes.push(byte);
+    }
+    if let (Some(first), true) = (bytes.first_mut(), random.chance(1, 2)) {
+        *first = first_byte(random, form);
+    }
+    bytes
+}
+
+/// Changes one place of the bytes, or takes part of another case.
+fn mutate(random: &mut Random, bytes: &mut Vec<u8>, form: Form, draw: Draw) {
+    let at = random.below(bytes.len() + 1);
+    match random.below(7) {
+        0 => bytes.insert(at, random.draw() as u8),
+        1 if at < bytes.len() => drop(bytes.remove(at)),
+        2 if at < bytes.len() => bytes[at] = random.draw() as u8,
+        3 if at < bytes.len() => bytes[at] ^= 1 << random.below(8),
+        4 => {
+            let other = draw(random).case.pack(form);
+            bytes.truncate(at);
+            bytes.extend(other.get(at..).unwrap_or(&[]));
+        }
+        5 => bytes.truncate(at),
+        _ => {
+            let from = random.below(at + 1);
+            bytes.extend_from_within(from..at);
+        }
+    }
+}
+
+/// A valid case changed up to four times.
+pub fn mutated(random: &mut Random, form: Form, draw: Draw) -> Vec<u8> {
+    let mut bytes = draw(random).case.pack(form);
+    for _ in 0..=random.below(4) {
+        mutate(random, &mut bytes, form, draw);
+    }
+    bytes
+}
+
 /// A capacity and a length of the workspace, either of them often bad.
 fn lent(random: &mut Random, n: usize, good: usize) -> (usize, usize) {
     let capacity = match random.below(8) {

@@ -3,7 +3,8 @@
 use crate::archive::{Change, Fault};
 use crate::case::{Bound, Case, Form, Times, DEPARTURES};
 
-fn fault(number: usize, returned: usize) -> Fault {
+/// A fault and what is returned with it.
+pub fn fault(number: usize, returned: usize) -> Fault {
     Fault { number, returned }
 }
 
@@ -12,13 +13,24 @@ fn beyond(bound: Bound) -> bool {
     !(-1_000_000..=1_000_000).contains(&bound.value)
 }
 
-/// Reads fields from the bits of a packed case.
+/// Reads fields from the bits of a packed case, and keeps the place of the first
+/// strict bound.
 struct Reader<'a> {
     bytes: &'a [u8],
     place: usize,
+    marked: Option<usize>,
 }
 
 impl Reader<'_> {
+    fn new(bytes: &[u8]) -> Reader<'_> {
+        let (place, marked) = (0, None);
+        Reader {
+            bytes,
+            place,
+            marked,
+        }
+    }
+
     /// The next bit, or none at the end.
     fn bit(&mut self) -> Option<bool> {
         let byte = self.bytes.get(self.place / 8)?;
@@ -109,8 +121,24 @@ impl Reader<'_> {
             if bound.is_some_and(beyond) {
                 return Err(fault(6, place));
             }
+            if bound.is_some_and(|bound| bound.strict) {
+                self.marked = self.marked.or(Some(place));
+            }
         }
         Ok(())
+    }
+
+    /// The case of a form and n, whose fields were read already.
+    fn case(&mut self, form: Form, n: usize) -> Result<Case, Fault> {
+        let place = self.place;
+        let horizon = self.number(6).ok_or(fault(1, place))? as usize + 1;
+        let mut case = Case::empty(n, horizon);
+        self.table(&mut case)?;
+        let bounds = n * (n + 1);
+        self.pattern(form, &mut case.start[..bounds])?;
+        self.pattern(form, &mut case.target[..bounds])?;
+        self.end()?;
+        Ok(case)
     }
 
     /// The fill up to a whole byte, and that nothing follows.
@@ -130,17 +158,26 @@ impl Reader<'_> {
 
 /// The case that the bytes hold, in either form, or faults 1, 2 and 4 to 8.
 pub fn of_packed(bytes: &[u8]) -> Result<Case, Fault> {
-    let mut reader = Reader { bytes, place: 0 };
+    let mut reader = Reader::new(bytes);
     let (form, n) = reader.departures()?;
-    let place = reader.place;
-    let horizon = reader.number(6).ok_or(fault(1, place))? as usize + 1;
-    let mut case = Case::empty(n, horizon);
-    reader.table(&mut case)?;
-    let bounds = n * (n + 1);
-    reader.pattern(form, &mut case.start[..bounds])?;
-    reader.pattern(form, &mut case.target[..bounds])?;
-    reader.end()?;
-    Ok(case)
+    reader.case(form, n)
+}
+
+/// The case that is to be converted to a form, or the faults of that, but for 14:
+/// those of reading, 2 if the bytes are in this form already, and going back to the
+/// old form 16, for n over 7 at its field, else for the first strict bound.
+pub fn of_converted(to: Form, bytes: &[u8]) -> Result<Case, Fault> {
+    let mut reader = Reader::new(bytes);
+    let (form, n) = reader.departures()?;
+    if form == to {
+        return Err(fault(2, 0));
+    }
+    let case = reader.case(form, n)?;
+    match (to, reader.marked) {
+        (Form::Old, _) if n > to.departures() => Err(fault(16, 3)),
+        (Form::Old, Some(place)) => Err(fault(16, place)),
+        _ => Ok(case),
+    }
 }
 
 /// Faults 4 and 5 of an unpacked table; n is from 1 to 15.

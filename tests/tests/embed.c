@@ -105,6 +105,17 @@ int main(void)
     printf("%u %zu %zu\n", (unsigned)kind, fault, value);
     printf("%d\n", TRAMCHECK_DONE);
 
+    /* The same case in the wide form, and back. */
+    uint8_t wide[5], old[sizeof bytes];
+    kind = tramcheck_to_wide(bytes, sizeof bytes, wide, sizeof wide, &fault,
+                             &value);
+    printf("%u %zu %zu: %02X %02X %02X %02X %02X\n", (unsigned)kind, fault,
+           value, wide[0], wide[1], wide[2], wide[3], wide[4]);
+    kind = tramcheck_to_old(wide, sizeof wide, old, sizeof old, &fault,
+                            &value);
+    printf("%u %zu %zu: %d\n", (unsigned)kind, fault, value,
+           memcmp(old, bytes, sizeof bytes));
+
     /* From 0 to 90 in one cycle: not with a time of 60, but with 90, as a
      * preview tells before the commit. The row may not be emptied. */
     memset(present + TRAMCHECK_START, 1, 2);

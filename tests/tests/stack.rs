@@ -2,14 +2,14 @@
 
 use evidence::archive::{self, Answer, Change, Verdict};
 use evidence::case::{Form, DEPARTURES};
-use evidence::faults::workspace;
-use evidence::longest::{longest, start_of_longest};
+use evidence::faults::{fault, workspace};
+use evidence::longest::{full, longest, start_of_longest};
 use std::thread;
 
 /// What the header names.
 const STACK: usize = 1024 * 1024;
 
-/// Every function on the longest case. Overrunning the stack would end the
+/// Every function on the longest case that it takes. Overrunning the stack would end the
 /// process.
 fn calls() {
     let case = longest();
@@ -41,6 +41,13 @@ fn calls() {
     assert_eq!(archive::write(Form::Wide, &case, &mut out), Ok(Ok(1916)));
     let read = archive::read(&out).expect("a known outcome");
     assert_eq!(read.entries, case.entries());
+    let old = full(7).pack(Form::Old);
+    let wide = archive::convert(Form::Wide, &old, &mut out);
+    assert_eq!(wide, Ok(Ok(440)));
+    let back = archive::convert(Form::Old, &out[..440], &mut [0; 426]);
+    assert_eq!(back, Ok(Ok(426)));
+    let refused = archive::convert(Form::Old, &bytes, &mut out);
+    assert_eq!(refused, Ok(Err(fault(16, 3))));
 }
 
 #[test]

@@ -2,47 +2,13 @@
 //! reader of this package, both written from document 01 and the requests.
 
 use evidence::archive::{self, Fault, Reading};
-use evidence::case::{less, most, Bound, Case, Form, BOUNDS, ENTRIES, START};
-use evidence::checks::{named, named_unpacked, noisy};
+use evidence::case::{less, most, packed_bits, Bound, Case, Form, BOUNDS, ENTRIES, START};
+use evidence::checks::{named, named_unpacked, noisy, Output};
 use evidence::damage;
 use evidence::faults;
-use evidence::longest::longest;
+use evidence::longest::{full, longest};
 use evidence::random::wide::{any_trial, wide_trial};
 use evidence::random::{strict_trial, trial, Draw, Random};
-
-/// Bytes on each side of an output that no call may touch.
-const GUARD: usize = 9;
-
-/// An output full of random bytes, between two guards.
-struct Output {
-    all: Vec<u8>,
-    before: Vec<u8>,
-}
-
-impl Output {
-    fn new(random: &mut Random, length: usize) -> Output {
-        let all: Vec<u8> = (0..length + 2 * GUARD)
-            .map(|_| random.draw() as u8)
-            .collect();
-        Output {
-            before: all.clone(),
-            all,
-        }
-    }
-
-    /// The part that is lent.
-    fn part(&mut self) -> &mut [u8] {
-        let end = self.all.len() - GUARD;
-        &mut self.all[GUARD..end]
-    }
-
-    /// Whether the part begins with these bytes and all else is as it was.
-    fn holds(&self, bytes: &[u8]) -> bool {
-        let mut expected = self.before.clone();
-        expected[GUARD..GUARD + bytes.len()].copy_from_slice(bytes);
-        self.all == expected
-    }
-}
 
 /// What is handed back of a case that was read.
 fn read_as(case: &Case, judged: Result<usize, Fault>) -> Reading {
@@ -337,10 +303,7 @@ fn bits_of_the_wide_form() {
         "0 0 11 111111111111111111101 10 000000000000000000011 0 0",
         "0 0 0 0 0 0",
     ];
-    let bits: Vec<u8> = fields.concat().bytes().filter(|bit| *bit != b' ').collect();
-    let byte =
-        |bits: &[u8]| (0..8).fold(0, |byte, k| 2 * byte + u8::from(bits.get(k) == Some(&b'1')));
-    let bytes: Vec<u8> = bits.chunks(8).map(byte).collect();
+    let bytes = packed_bits(&fields.concat());
     assert_eq!(case.pack(Form::Wide), bytes);
     assert_eq!(faults::of_packed(&bytes), Ok(case));
     let mut output = vec![0; bytes.len()];
@@ -360,11 +323,7 @@ fn three_zero_bits() {
 /// Every entry is there: the longest cases have 426 and 1,916 bytes.
 #[test]
 fn longest_cases() {
-    let mut old = Case::empty(7, 64);
-    old.times[..49].fill(Some(-86_400));
-    old.start[..56].fill(Some(most(-1_000_000)));
-    old.target[..56].fill(Some(most(1_000_000)));
-    for (form, case, length) in [(Form::Old, old, 426), (Form::Wide, longest(), 1916)] {
+    for (form, case, length) in [(Form::Old, full(7), 426), (Form::Wide, longest(), 1916)] {
         let mut output = [0; 2000];
         assert_eq!(archive::write(form, &case, &mut output), Ok(Ok(length)));
         assert_eq!(output[..length], case.pack(form)[..]);

@@ -25,6 +25,7 @@ use Rattle.model.specs.Faults.{unmarked, network}
 use Rattle.model.specs.Packed.{caseOf}
 use Rattle.model.specs.Answers.{seconds, cycleNumber, Numbers, numbersOf, runInParts}
 use Rattle.model.specs.Writing.{packedAs, writeFault, told, outputAfter}
+use Rattle.model.specs.Converting.{converted, outputAfterConversion}
 use Rattle.model.specs.Changes.{timePlace, commit}
 
 -- a run as an answer: cycle k is reached, with the times of that cycle in parts; 0 parts where it is refused
@@ -130,6 +131,11 @@ pub record CaseHanded (c : Case) (n horizon : ℕ) (present strict : List ℕ) (
 pub record WrittenHanded (f : Form) (c : Case) (out : List ℕ) (returned first second : ℕ) (after : List ℕ) : Type 0 where
   pub numbers : Handed (writtenNumbers (told (writeFault f c (length out)) (packedAs f c))) returned first second
   pub output : after ≡ outputAfter (writeFault f c (length out)) (packedAs f c) out
+
+-- a packed case converted from one form to another, likewise
+pub record ConvertedHanded (from to : Form) (s out : List ℕ) (returned first second : ℕ) (after : List ℕ) : Type 0 where
+  pub numbers : Handed (writtenNumbers (converted from to s (length out))) returned first second
+  pub output : after ≡ outputAfterConversion from to s out
 
 -- an entry put at place k of two arrays: what is stored, and what is there afterwards
 pub record EntryPut (k : ℕ) (e : Slot) (present : List ℕ) (values : List ℤ) (flags : List ℕ) (times : List ℤ) : Type 0 where

@@ -1,5 +1,5 @@
-// The library for C and Rust: verdicts, runs, packed cases written and read, on numbers and lent arrays. No function asks anything of its caller.
-// The names end in the most departures, which decides how long the arrays are: the header gives them to the linker under plain names.
+// The library for C and Rust: verdicts, runs, packed cases written, read and converted, on numbers and lent arrays. No function asks anything of its caller.
+// Names of functions with arrays end in the most departures, which decides how long the arrays are: the header gives them to the linker under plain names.
 ghost use mathlib.Core.Path.{_≡_};
 ghost use Prim.Native.Nat.{_+_, _≤_, _<_};
 ghost use lib.ListN.{length};
@@ -13,7 +13,7 @@ ghost use Rattle.model.specs.Changes.{preview, workspaceAfterPreview};
 ghost use Rattle.embed.specs.Numbers;
 ghost use Rattle.embed.specs.Numbers.{caseEntries, Handed, Told, ToldInParts, writtenNumbers, withCount, plainTimes, startTimes};
 ghost use Rattle.embed.specs.Numbers.{runAnswer, runPartsAnswer, slotOf, slotAt, limitAt, caseIn, noMarks, entriesOf};
-ghost use Rattle.embed.specs.Numbers.{EntryPut, EntriesHanded, CaseHanded, WrittenHanded, CommitHanded};
+ghost use Rattle.embed.specs.Numbers.{EntryPut, EntriesHanded, CaseHanded, WrittenHanded, ConvertedHanded, CommitHanded};
 use ints::Cycle;
 use ints::Seconds;
 use ints::ZERO;
@@ -449,6 +449,38 @@ pub extern "C" fn tramcheck_write_wide_15(
 {
     let case = case_in(n, horizon, present, strict, values);
     let answer = packer::write_wide(case, out);
+    tell_written(answer, fault, value)
+}
+
+// A packed case in document 01's form to the wide form, in front of out.
+#[no_mangle]
+pub extern "C" fn tramcheck_to_wide(
+    bytes: &[u8],
+    out: &mut [u8],
+    fault: &mut usize,
+    value: &mut usize,
+) -> u32
+    ensures { λ r. ⌜
+        ConvertedHanded old wide (now (bytes .entry)) (now (out .entry)) r (now (fault .exit)) (now (value .exit)) (now (out .exit))
+        ⌝ }
+{
+    let answer = convert::to_wide(bytes, out);
+    tell_written(answer, fault, value)
+}
+
+// And back, where nothing is lost.
+#[no_mangle]
+pub extern "C" fn tramcheck_to_old(
+    bytes: &[u8],
+    out: &mut [u8],
+    fault: &mut usize,
+    value: &mut usize,
+) -> u32
+    ensures { λ r. ⌜
+        ConvertedHanded wide old (now (bytes .entry)) (now (out .entry)) r (now (fault .exit)) (now (value .exit)) (now (out .exit))
+        ⌝ }
+{
+    let answer = convert::to_old(bytes, out);
     tell_written(answer, fault, value)
 }
 

@@ -53,6 +53,7 @@ pub mod Complement
 pub mod Bytes
 pub mod RoundTrip
 pub mod Writer
+pub mod Converted
 pub mod DemandsHold
 pub mod Changes
 pub mod Determined

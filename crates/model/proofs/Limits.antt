@@ -29,8 +29,8 @@ use Rattle.model.specs.Bound as B
 use Rattle.model.specs.Bound.{Bound, upto}
 use Rattle.model.specs.Pattern.{pairPlace, pairBound}
 use Rattle.model.specs.Network.{Time, blank, secs, time, isTime, regular}
-use Rattle.model.specs.Faults.{timeOf, tableOf, boundOf, nothing, present, stated, network, beyond, over, boundFault, boundFaultIn, entryFault}
-use Rattle.model.specs.Faults.{rowsFault, outside, departuresFault, timesFault, tableFault, patternsFault, caseFault, formFault, roomFault}
+use Rattle.model.specs.Faults.{timeOf, tableOf, boundOf, nothing, present, stated, network, beyond, over, boundFault, boundFaultIn, faultAlong}
+use Rattle.model.specs.Faults.{entryFault, rowsFault, outside, departuresFault, timesFault, tableFault, patternsFault, caseFault, formFault, roomFault}
 use Rattle.model.specs.Faults.{callFault, runFault}
 use Rattle.model.specs.Conditions.{Departures, Regular, Small, free, sized, InLimit, BoundInLimit, BoundIn, TableLimits, Limits}
 use Rattle.model.proofs.Places.{getD-times}
@@ -69,13 +69,12 @@ wider-limit {a} {b} h e =
     elim (e .has) as (λ t. (t && ltb a size) ≡ false → (t && ltb b size) ≡ false) [ true ↦ λ l. le-ltb b size (omega (arith, ltb-false)) | false ↦ λ l. refl ]
 
 -- every entry has P, if those that are judged without a fault do
-every-none : {A : Type 0} {judge : ℕ → A → Option Fault} {P : A → Type 0} → ((p : ℕ) (e : A) → (judge p e ≡ none) ↔ P e)
-    → (p : ℕ) (es : List A) → (entryFault judge p es ≡ none) ↔ Every P es
-unfolding entryFault
-every-none each p [] = (λ e. done, λ e. refl)
-every-none each p (e ∷ es) =
+pub every-none : {A : Type 0} (next : ℕ → A → ℕ) {judge : ℕ → A → Option Fault} {P : A → Type 0} → ((p : ℕ) (e : A) → (judge p e ≡ none) ↔ P e)
+    → (p : ℕ) (es : List A) → (faultAlong next judge p es ≡ none) ↔ Every P es
+every-none next each p [] = (λ e. done, λ e. refl)
+every-none next each p (e ∷ es) =
     let here = each p e in
-    let rest = every-none each (suc p) es in
+    let rest = every-none next each (next p e) es in
     simp orElse-none (λ h. both (here .0 (h .0)) (rest .0 (h .1)), λ h. (here .1 (of-both h .0), rest .1 (of-both h .1)))
 
 -- an entry in the limit, and a bound
@@ -94,13 +93,16 @@ boundFaultIn-none f p e = simp (orElse-none, boundFault-none, when-none) (λ h. 
 
 -- all of them
 pub entryFault-none : (limit : ℕ) (f : ℕ → Fault) (p : ℕ) (es : List Slot) → (entryFault (over limit f) p es ≡ none) ↔ Every (InLimit limit) es
-entryFault-none limit f = every-none (over-none limit f)
+unfolding entryFault
+entryFault-none limit f = every-none (λ q e. suc q) (over-none limit f)
 
 pub boundsFault-none : (p : ℕ) (es : List Limit) → (entryFault boundFault p es ≡ none) ↔ Every BoundInLimit es
-boundsFault-none = every-none boundFault-none
+unfolding entryFault
+boundsFault-none = every-none (λ q e. suc q) boundFault-none
 
 pub boundsFaultIn-none : (f : Form) (p : ℕ) (es : List Limit) → (entryFault (boundFaultIn f) p es ≡ none) ↔ Every (BoundIn f) es
-boundsFaultIn-none f = every-none (boundFaultIn-none f)
+unfolding entryFault
+boundsFaultIn-none f = every-none (λ q e. suc q) (boundFaultIn-none f)
 
 -- r rows of n entries each: every time is in its limit, and each row holds a time
 pub data RowsInLimit (n : ℕ) : ℕ → List Slot → Type 0 where

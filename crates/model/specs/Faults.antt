@@ -91,14 +91,22 @@ over limit f p e = when (beyond limit e) (f p)
 unfoldable pub boundFault : ℕ → Limit → Option Fault
 boundFault p e = over boundLimit fault.Bound p (stated e)
 
--- for a form: 6, then 16 if it is strict and the form has no place for its mark
-unfoldable pub boundFaultIn : Form → ℕ → Limit → Option Fault
-boundFaultIn f p e = orElse (boundFault p e) (when (markless f && (e .has && e .strict)) (fault.Form p))
+-- 16 at p: it is strict, and the form has no place for its mark
+abbrev pub markFault : Form → ℕ → Limit → Option Fault
+markFault f p e = when (markless f && (e .has && e .strict)) (fault.Form p)
 
--- the first fault of the entries, which are numbered from p on, by what judge says of each
+-- for a form: 6, then 16
+unfoldable pub boundFaultIn : Form → ℕ → Limit → Option Fault
+boundFaultIn f p e = orElse (boundFault p e) (markFault f p e)
+
+-- the first fault of the entries by what judge says of each: the first of them is at place p, and next gives the place after an entry
+abbrev pub faultAlong : {A : Type 0} → (ℕ → A → ℕ) → (ℕ → A → Option Fault) → ℕ → List A → Option Fault
+faultAlong next judge p [] = none
+faultAlong next judge p (e ∷ es) = orElse (judge p e) (faultAlong next judge (next p e) es)
+
+-- where they are numbered from p on
 unfoldable pub entryFault : {A : Type 0} → (ℕ → A → Option Fault) → ℕ → List A → Option Fault
-entryFault judge p [] = none
-entryFault judge p (e ∷ es) = orElse (judge p e) (entryFault judge (suc p) es)
+entryFault judge p es = faultAlong (λ q e. suc q) judge p es
 
 -- r rows of n entries each, a row after its last entry
 unfoldable pub rowsFault : ℕ → ℕ → ℕ → List Slot → Option Fault
@@ -131,11 +139,15 @@ patternsFault judge c =
 unfoldable pub caseFault : Case → Option Fault
 caseFault c = orElse (tableFault c 1 (c .horizon .0)) (patternsFault boundFault c)
 
--- of a case for a packed form: 2; 16 where it has no place for n; 3 to 5; 6 and 16 of the bounds
+-- 16 at p: the form has no place for n
+abbrev pub tooMany : Form → ℕ → Case → Option Fault
+tooMany f p c = when (ltb (mostIn f) (c .n)) (fault.Form p)
+
+-- of a case for a packed form: 2; 16 of n; 3 to 5; 6 and 16 of the bounds
 unfoldable pub formFault : Form → Case → Option Fault
 formFault f c =
     orElse (departuresFault c)
-    (orElse (when (ltb (mostIn f) (c .n)) (fault.Form 0))
+    (orElse (tooMany f 0 c)
     (orElse (timesFault c 1 (c .horizon .0)) (patternsFault (boundFaultIn f) c)))
 
 -- then 9 and 10

@@ -12,9 +12,11 @@ pub mod Faults
 pub mod Packed
 pub mod Answers
 pub mod Writing
+pub mod Converting
 pub mod Demands
 pub mod Changes
 pub mod Conditions
 pub mod Examples
 pub mod WritingVectors
+pub mod ConvertingVectors
 pub mod ChangesVectors

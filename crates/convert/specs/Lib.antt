@@ -1,0 +1,2 @@
+-- How the private answer says what is lost.
+pub mod Looking
