@@ -6,9 +6,10 @@
  * 1 MiB of the stack.
  *
  * Each function returns what the verdict is and sets
- *   *fault    the fault's number, 1 to 16, where it is TRAMCHECK_REFUSED, else 0;
+ *   *fault    the fault's number, 1 to 16, where it is TRAMCHECK_REFUSED, else 0. Number 12 (bound too large) is reserved and not returned: it is proved
+ *             that no bound can be too large;
  *   *value    k for TRAMCHECK_REACHED, N for TRAMCHECK_CLEAR, 0 for TRAMCHECK_NEVER, what the fault returns for TRAMCHECK_REFUSED:
- *             its place, the cycle of 11 (table full) and 12 (bound too large), the departure of 13, the bytes needed of 14, or 0;
+ *             its place, the cycle of 11 (table full), the departure of 13, the bytes needed of 14, or 0;
  *             for TRAMCHECK_DONE the number of bytes written or read, 0 for a change committed;
  *   *parts    D, the parts of a second in which the start is handed back: 1 if no bound of the two patterns is strict, else n + 1; 0 for every verdict
  *             other than TRAMCHECK_REACHED;

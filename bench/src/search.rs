@@ -98,8 +98,12 @@ fn searched<const M: usize>(case: &Case, table: &Table<M>) -> (usize, Verdict) {
     (horizon, Verdict::Clear { horizon })
 }
 
-fn refused(number: usize, returned: usize) -> Answer {
-    without_start(Verdict::Refused(Fault { number, returned }))
+/// The table is full at list k.
+fn full(k: usize) -> Answer {
+    without_start(Verdict::Refused(Fault {
+        number: 11,
+        returned: k,
+    }))
 }
 
 /// What list k decides, if anything.
@@ -108,9 +112,6 @@ fn decided<const M: usize>(
     start: &[(usize, usize, i32)],
     k: usize,
 ) -> Option<Answer> {
-    if list.iter().any(Zone::too_large) {
-        return Some(refused(12, k));
-    }
     let picked = |zone: &Zone<M>| {
         let mut common = *zone;
         common.meet(start).ok()?;
@@ -145,7 +146,7 @@ pub fn search<const M: usize>(
         }
         let mut zones = list.zones.all().iter();
         answer = match zones.try_for_each(|zone| lister.before(&table, zone, &mut next)) {
-            Err(Stop::Full) => Some(refused(11, k)),
+            Err(Stop::Full) => Some(full(k)),
             Err(Stop::Steps) => return None,
             Ok(()) => decided(next.zones.all(), &start, k),
         };

@@ -72,14 +72,6 @@ impl<const M: usize> Zone<M> {
         Ok(())
     }
 
-    /// Whether a finite bound is beyond 2,000,000,000 in size.
-    pub fn too_large(&self) -> bool {
-        let bounds = self.0.as_flattened().iter();
-        bounds.fold(false, |any, &b| {
-            any | (b != NONE && b.unsigned_abs() > 2_000_000_000)
-        })
-    }
-
     /// The start picked, and the set brought down to it: for each departure in
     /// turn the greatest time; if there is no greatest, the least; if neither, 0.
     pub fn pick(&mut self) -> Result<Times, Empty> {

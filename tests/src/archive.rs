@@ -3,7 +3,7 @@
 
 use crate::case::{Case, Entries, Form, Times, DEPARTURES, ENTRIES};
 
-/// A fault's number, 1 to 16, and what is returned with it.
+/// A fault's number, 1 to 16 but for 12, and what is returned with it.
 #[derive(Clone, Copy, Debug, PartialEq, Eq)]
 pub struct Fault {
     pub number: usize,
@@ -233,7 +233,7 @@ impl Results {
     /// The verdict that the returned kind and the numbers stand for.
     fn answer(&self, kind: u32) -> Result<Answer, Unknown> {
         let verdict = match (kind, self.fault, self.value) {
-            (0, number @ (1..=12 | 15), returned) => Verdict::Refused(Fault { number, returned }),
+            (0, number @ (1..=11 | 15), returned) => Verdict::Refused(Fault { number, returned }),
             (1, 0, cycle) => Verdict::Reached { cycle },
             (2, 0, horizon) => Verdict::Clear { horizon },
             (3, 0, 0) => Verdict::Never,

@@ -121,10 +121,11 @@ impl Bounds {
         (0..=self.n).all(|i| (0..=self.n).all(|j| kept(i, j)))
     }
 
-    /// Whether a finite bound is beyond 2,000,000,000 in size.
-    fn too_large(&self) -> bool {
+    /// Whether every finite bound is within request [9]'s limit for list k.
+    fn within_limit(&self, k: usize) -> bool {
+        let limit = (self.n * (k + 1)) as i64 * 1_000_000;
         let mut finite = self.bounds.iter().flatten();
-        finite.any(|bound| bound.value.abs() > 2_000_000_000)
+        finite.all(|bound| bound.value.abs() <= limit)
     }
 }
 
@@ -309,15 +310,12 @@ fn decided(
     capacity: usize,
     k: usize,
 ) -> Result<Option<Bounds>, Fault> {
-    let fault = |number| Fault {
-        number,
-        returned: k,
-    };
+    assert!(list.iter().all(|zone| zone.within_limit(k)), "list {k}");
     if list.len() > capacity {
-        return Err(fault(11));
-    }
-    if list.iter().any(Bounds::too_large) {
-        return Err(fault(12));
+        return Err(Fault {
+            number: 11,
+            returned: k,
+        });
     }
     Ok(list.iter().find_map(|zone| zone.clone().and(start)))
 }

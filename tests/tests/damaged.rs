@@ -11,7 +11,7 @@ use evidence::random::wide::{any_trial, strict_wide_trial, wide_trial};
 use evidence::random::{strict_trial, trial, Draw, Random};
 use evidence::selections::parts_of;
 
-/// How often each fault, or none, must occur at least; 12 cannot be met.
+/// How often each fault, or none, must occur at least; 12 is reserved.
 const LEAST: usize = 40;
 
 fn enough(counts: &[usize; 14], numbers: &[usize]) {

@@ -11,71 +11,65 @@ use lib.ListN.{length}
 use Rattle.ints.proofs.Integers.{impossible}
 use Rattle.model.specs.Matrix.{Matrix}
 use Rattle.model.specs.Network.{Network}
-use Rattle.model.specs.Search.{lists, firstCommon, someLarge, Outcome, reached, clear, never, tableFull, boundTooLarge, partsOf, startIn}
+use Rattle.model.specs.Search.{lists, firstCommon, Outcome, reached, clear, never, tableFull, partsOf, startIn}
 use Rattle.model.specs.Search.{Plan, plan, settled, outcome}
 use Rattle.model.specs.Demands.{Met, NotBefore, First, EndsEarly, EndsAt, Repeats, RunsDry, NeverHolds}
 use Rattle.model.specs.Conditions.{Regular}
 use Rattle.model.proofs.Repeats.{repeat-is, repeat-found}
 use Rattle.model.proofs.Dry.{dry-from, early-before}
-use Rattle.model.proofs.Searched.{parts-some, met-by, unmet, Settled, full, large, met, unsettled, settled-is, Unended, Ending, stopped, dried}
+use Rattle.model.proofs.Searched.{parts-some, met-by, unmet, Settled, full, met, unsettled, settled-is, Unended, Ending, stopped, dried}
 use Rattle.model.proofs.Searched.{passed, outcome-ends, Short, Planned, whole, short, plan-is}
 
 pub data Concluded (w : Network) (capacity : ℕ) : Outcome → Type 0 where
   reached-at : {d : Matrix} {k : ℕ} → First w k → firstCommon (w .n) (w .start) (lists w k) ≡ some d → (EndsEarly w capacity → ⊥)
       → Concluded w capacity (reached k (partsOf w) (startIn (w .n) (partsOf w) d))
   table-full : {k : ℕ} → EndsAt w capacity k → capacity < length (lists w k) → Concluded w capacity (tableFull k)
-  bound-too-large : {k : ℕ} → k ≤ w .horizon → EndsAt w capacity k → length (lists w k) ≤ capacity → someLarge (lists w k) ≡ true
-      → Concluded w capacity (boundTooLarge k)
   clear-at : (Repeats w ⊎ RunsDry w → ⊥) → NotBefore w (suc (w .horizon)) → (EndsEarly w capacity → ⊥) → Concluded w capacity (clear (w .horizon))
   never-at : NeverHolds w capacity → Concluded w capacity never
 
 module _ (w : Network) (capacity : ℕ) (reg : Regular (w .n) (w .times)) (some-row : 1 ≤ w .n) where
   -- a cycle that settles nothing
   open-at : (k : ℕ) {o : Option Outcome} → Settled w capacity k (lists w k) o → o ≡ none
-      → (length (lists w k) ≤ capacity) × (someLarge (lists w k) ≡ false) × (Met w k → ⊥)
+      → (length (lists w k) ≤ capacity) × (Met w k → ⊥)
   open-at k (full h) e = impossible cc
-  open-at k (large h l) e = impossible cc
-  open-at k (met h l f) e = impossible cc
-  open-at k (unsettled h l f) e = (h, l, unmet w reg k f)
+  open-at k (met h f) e = impossible cc
+  open-at k (unsettled h f) e = (h, unmet w reg k f)
 
   -- no cycle up to k ends the search
   abbrev Open : ℕ → Type 0
   Open k = Unended (lists w) (settled w capacity) k
 
-  nothing-at : {k : ℕ} → Open k → (i : ℕ) → 1 ≤ i → i ≤ k
-      → (length (lists w i) ≤ capacity) × (someLarge (lists w i) ≡ false) × (Met w i → ⊥)
+  nothing-at : {k : ℕ} → Open k → (i : ℕ) → 1 ≤ i → i ≤ k → (length (lists w i) ≤ capacity) × (Met w i → ⊥)
   nothing-at all i l u = open-at i (settled-is w capacity i (lists w i)) (all i l u)
 
   not-before : {k : ℕ} → Open k → NotBefore w (suc k)
-  not-before all i l u = nothing-at all i l (omega arith) .2
+  not-before all i l u = nothing-at all i l (omega arith) .1
 
   not-early : {k : ℕ} → Open k → (e : EndsEarly w capacity) → e .at ≤ k → ⊥
-  not-early all e h =
-      let (f, g, _) = nothing-at all (e .at) (e .from-one) h in ⊎-elim (λ k. omega arith) (λ k. impossible cc) (e .too-much)
+  not-early all e h = let fits = nothing-at all (e .at) (e .from-one) h .0 in omega (arith, e .longer)
 
-  -- where no list up to cycle j is too much, and the target is met there, the search does not end early
-  met-first : (j : ℕ) → 1 ≤ j → Met w j → EndsAt w capacity j → length (lists w j) ≤ capacity → someLarge (lists w j) ≡ false → EndsEarly w capacity → ⊥
-  met-first j l m ends f g early = go (decLt (early .at) j) (decLt j (early .at))
+  -- where no list up to cycle j is too long, and the target is met there, the search does not end early
+  met-first : (j : ℕ) → 1 ≤ j → Met w j → EndsAt w capacity j → length (lists w j) ≤ capacity → EndsEarly w capacity → ⊥
+  met-first j l m ends f early = go (decLt (early .at) j) (decLt j (early .at))
     where
-      fits : (i : ℕ) → early .at ≡ i → length (lists w i) ≤ capacity → someLarge (lists w i) ≡ false → ⊥
-      fits i e h k = ⊎-elim (λ t. let u = rw e at t in omega arith) (λ t. let u = rw e at t in impossible cc) (early .too-much)
+      fits : (i : ℕ) → early .at ≡ i → length (lists w i) ≤ capacity → ⊥
+      fits i e h = let longer = rw e at (early .longer) in omega arith
 
       go : Dec (early .at < j) → Dec (j < early .at) → ⊥
-      go (yes h) d = let (a, b) = ends .fit-before (early .at) (early .from-one) h in fits (early .at) refl a b
+      go (yes h) d = fits (early .at) refl (ends .fit-before (early .at) (early .from-one) h)
       go (no h) (yes k) = early .unmet j l k m
-      go (no h) (no k) = fits j (omega arith) f g
+      go (no h) (no k) = fits j (omega arith) f
 
   -- a cycle that settles the search
   settles : (j : ℕ) → 1 ≤ j → plan w .cycles ≤ w .horizon → EndsAt w capacity j
       → {o : Option Outcome} → Settled w capacity j (lists w j) o → (p : Outcome) → o ≡ some p → Concluded w capacity p
   settles j l h ends (full f) p e = let q : tableFull j ≡ p = cc in rw (← q) (table-full ends f)
-  settles j l h ends (large f g) p e = let q : boundTooLarge j ≡ p = cc in let u = ends .searched in rw (← q) (bound-too-large {k = j} (omega arith) ends f g)
-  settles j l h ends (met {c} f g k) p e =
+  settles j l h ends (met {c} f k) p e =
       let q : reached j (partsOf w) (startIn (w .n) (partsOf w) c) ≡ p = cc in
       let u = ends .searched in
       let m : Met w j = (partsOf w, parts-some w, startIn (w .n) (partsOf w) c, met-by w reg j k) in
-      rw (← q) (reached-at (record { from-one = l; to-horizon = omega arith; not-before = ends .unmet; met = m }) k (met-first j l m ends f g))
-  settles j l h ends (unsettled f g k) p e = impossible cc
+      rw (← q) (reached-at (record { from-one = l; to-horizon = omega arith; not-before = ends .unmet; met = m }) k (met-first j l m ends f))
+  settles j l h ends (unsettled f k) p e = impossible cc
 
   -- past all cycles
   short-of : Repeats w → Short w
@@ -118,7 +112,7 @@ module _ (w : Network) (capacity : ℕ) (reg : Regular (w .n) (w .times)) (some-
         from-one = omega arith;
         searched = u;
         unmet = not-before all;
-        fit-before = λ i l h. let (f, g, _) = nothing-at all i l (omega arith) in (f, g);
+        fit-before = λ i l h. nothing-at all i l (omega arith) .0;
       }) (settled-is w capacity (suc j) (lists w (suc j))) o e
   concluded (dried j l all d) = never-at (dry-at j l all d)
   concluded (passed all wet) = past (plan-is w) refl all wet

@@ -17,18 +17,18 @@ use Rattle.model.specs.declared.Verdict.{Verdict}
 use Rattle.model.specs.declared.Verdict.the-variants as verdict
 use Rattle.model.specs.Matrix.{Matrix}
 use Rattle.model.specs.Network.{Network, inParts}
-use Rattle.model.specs.Search.{Outcome, reached, clear, never, tableFull, boundTooLarge, firstCommon, partsOf, startIn, outcome, lists, someLarge}
+use Rattle.model.specs.Search.{Outcome, reached, clear, never, tableFull, firstCommon, partsOf, startIn, outcome, lists}
 use Rattle.model.specs.Faults.{network, callFault}
 use Rattle.model.specs.Answers.{seconds, cycleNumber, allTimes, numbersOf, refusal, answered, answer, workspaceAfter, answerPacked, workspaceAfterPacked}
 use Rattle.model.specs.Zones.{ListsOfZones}
 use Rattle.model.specs.Demands as D
-use Rattle.model.specs.Demands.{InLimits, TooMuch, Ended, Demand1, Witness, Met, NotBefore, First, EndsEarly, EndsAt}
-use Rattle.model.specs.Demands.{FullAt, LargeAt, Demand2, Repeats, RunsDry, NeverHolds, Demand3, Demands, PackedDemands}
+use Rattle.model.specs.Demands.{InLimits, Ended, Demand1, Witness, Met, NotBefore, First, EndsEarly, EndsAt}
+use Rattle.model.specs.Demands.{FullAt, Demand2, Repeats, RunsDry, NeverHolds, Demand3, Demands, PackedDemands, ListLimits, Reserved}
 use Rattle.model.specs.Conditions.{Regular}
 use Rattle.model.proofs.ZoneSets.{lists-of-zones}
 use Rattle.model.proofs.Searched.{met-by}
 use Rattle.model.proofs.Limits.{limits-of}
-use Rattle.model.proofs.Sizes.{none-large}
+use Rattle.model.proofs.Sizes.{list-limits}
 use Rattle.model.proofs.Parsed.{parsed-call}
 use Rattle.model.proofs.Beyond.{beyond}
 use Rattle.model.proofs.Dry.{dry-beyond}
@@ -40,7 +40,6 @@ ended (reached k parts xs) = D.Ended.reached k
 ended (clear k) = D.Ended.clear k
 ended never = D.Ended.never
 ended (tableFull k) = D.Ended.table-full k
-ended (boundTooLarge k) = D.Ended.bound-too-large k
 
 -- ---- the answer of a call, by its first fault
 module _ (c : Case) (capacity size : ℕ) where
@@ -86,7 +85,6 @@ pub reached-only : {w : Network} {capacity : ℕ} {o : Outcome} → Concluded w 
     → ReachedAt w o k
 reached-only (reached-at {d} {k = j} f s a) k e = let q : j ≡ k = ap valueOf e in rw (← q) (record { zone = d; is-first = f; in-common = s; is = refl })
 reached-only (concluded.table-full e h) k q = impossible cc
-reached-only (concluded.bound-too-large l e f h) k q = impossible cc
 reached-only (clear-at s u a) k q = impossible cc
 reached-only (never-at h) k q = impossible cc
 
@@ -97,8 +95,8 @@ module _ (w : Network) (capacity : ℕ) (reg : Regular (w .n) (w .times)) (some-
       let not-more : ¬ (k < j) = λ h. f .not-before k (g .from-one) h (g .met) in
       omega arith
 
-  early : {k : ℕ} → EndsAt w capacity k → TooMuch w capacity k → EndsEarly w capacity
-  early {k} e t = record { at = k; from-one = e .from-one; searched = e .searched; too-much = t; unmet = e .unmet }
+  early : {k : ℕ} → FullAt w capacity k → EndsEarly w capacity
+  early {k} (e, h) = record { at = k; from-one = e .from-one; searched = e .searched; longer = h; unmet = e .unmet }
 
   -- never means never
   never-met : NeverHolds w capacity → (k : ℕ) → 1 ≤ k → Met w k → ⊥
@@ -106,8 +104,7 @@ module _ (w : Network) (capacity : ℕ) (reg : Regular (w .n) (w .times)) (some-
 
   only-first : {o : Outcome} → Concluded w capacity o → (EndsEarly w capacity → ⊥) → (k : ℕ) → First w k → Verdict-of o ≡ verdict.Reached (cycleNumber k)
   only-first (reached-at f s a) d k g = ap (λ (i : ℕ). verdict.Reached (cycleNumber i)) (first-once f g)
-  only-first (concluded.table-full e h) d k g = absurd (d (early e (inl h)))
-  only-first (concluded.bound-too-large l e f h) d k g = absurd (d (early e (inr h)))
+  only-first (concluded.table-full e h) d k g = absurd (d (early (e, h)))
   only-first (clear-at s unmet a) d k g = absurd (unmet k (g .from-one) (let h = g .to-horizon in omega arith) (g .met))
   only-first (never-at h) d k g = absurd (never-met h k (g .from-one) (g .met))
 
@@ -123,8 +120,7 @@ module _ (w : Network) (capacity : ℕ) (reg : Regular (w .n) (w .times)) (some-
   otherwise : {o : Outcome} → Concluded w capacity o → (EndsEarly w capacity → ⊥) → NotBefore w (suc (w .horizon))
       → (Verdict-of o ≡ verdict.Clear (cycleNumber (w .horizon))) ⊎ (Verdict-of o ≡ verdict.Never)
   otherwise (reached-at f s a) d unmet = absurd (unmet _ (f .from-one) (let h = f .to-horizon in omega arith) (f .met))
-  otherwise (concluded.table-full e h) d unmet = absurd (d (early e (inl h)))
-  otherwise (concluded.bound-too-large l e f h) d unmet = absurd (d (early e (inr h)))
+  otherwise (concluded.table-full e h) d unmet = absurd (d (early (e, h)))
   otherwise (clear-at s u a) d unmet = inl refl
   otherwise (never-at h) d unmet = inr refl
 
@@ -132,56 +128,30 @@ module _ (w : Network) (capacity : ℕ) (reg : Regular (w .n) (w .times)) (some-
   clear-means : {o : Outcome} → Concluded w capacity o → Verdict-of o ≡ verdict.Clear (cycleNumber (w .horizon)) → (Repeats w → ⊥) × (RunsDry w → ⊥)
   clear-means (reached-at f s a) e = impossible cc
   clear-means (concluded.table-full f h) e = impossible cc
-  clear-means (concluded.bound-too-large l s f h) e = impossible cc
   clear-means (clear-at neither unmet a) e = (λ s. neither (inl s), λ d. neither (inr d))
   clear-means (never-at h) e = impossible cc
 
   never-exactly : {o : Outcome} → Concluded w capacity o → (Verdict-of o ≡ verdict.Never) ↔ NeverHolds w capacity
   never-exactly (reached-at f s a) = (λ e. impossible cc, λ h. absurd (never-met h _ (f .from-one) (f .met)))
-  never-exactly (concluded.table-full e f) = (λ e. impossible cc, λ h. absurd (h .not-early (early e (inl f))))
-  never-exactly (concluded.bound-too-large l e g f) = (λ e. impossible cc, λ h. absurd (h .not-early (early e (inr f))))
+  never-exactly (concluded.table-full e f) = (λ e. impossible cc, λ h. absurd (h .not-early (early (e, f))))
   never-exactly (clear-at neither unmet a) = (λ e. impossible cc, λ h. absurd (neither (h .cause)))
   never-exactly (never-at h) = (λ e. h, λ g. refl)
 
   -- two lists cannot both end the search
-  ends-once : {j k : ℕ} → EndsAt w capacity j → EndsAt w capacity k → TooMuch w capacity j → TooMuch w capacity k → j ≡ k
-  ends-once {j} {k} a b s t = omega (arith, not-less, not-more)
-    where
-      against : (i : ℕ) → (length (lists w i) ≤ capacity) × (someLarge (lists w i) ≡ false) → TooMuch w capacity i → ⊥
-      against i (h, l) u = ⊎-elim (λ v. omega arith) (λ v. impossible cc) u
-
-      not-less : ¬ (j < k)
-      not-less h = against j (b .fit-before j (a .from-one) h) s
-
-      not-more : ¬ (k < j)
-      not-more h = against k (a .fit-before k (b .from-one) h) t
+  ends-once : {j k : ℕ} → FullAt w capacity j → FullAt w capacity k → j ≡ k
+  ends-once {j} {k} (a, s) (b, t) =
+      let not-less : ¬ (j < k) = λ h. let fits = b .fit-before j (a .from-one) h in omega arith in
+      let not-more : ¬ (k < j) = λ h. let fits = a .fit-before k (b .from-one) h in omega arith in
+      omega arith
 
   full-at : {o : Outcome} → Concluded w capacity o → (k : ℕ) → (Verdict-of o ≡ verdict.Refused (fault.TableFull (cycleNumber k))) ↔ FullAt w capacity k
   full-at (concluded.table-full {k = j} e h) k = (
     λ q. let p : j ≡ k = ap valueOf q in rw (← p) (e, h),
-    λ f. ap (λ (i : ℕ). verdict.Refused (fault.TableFull (cycleNumber i))) (ends-once e (f .0) (inl h) (inl (f .1))),
+    λ f. ap (λ (i : ℕ). verdict.Refused (fault.TableFull (cycleNumber i))) (ends-once (e, h) f),
   )
-  full-at (concluded.bound-too-large {k = j} l e f h) k = (
-    λ q. impossible cc,
-    λ g. let p : j ≡ k = ends-once e (g .0) (inr h) (inl (g .1)) in let u = rw (← p) at (g .1) in absurd (omega arith),
-  )
-  full-at (reached-at f s a) k = (λ q. impossible cc, λ g. absurd (a (early (g .0) (inl (g .1)))))
-  full-at (clear-at s u a) k = (λ q. impossible cc, λ g. absurd (a (early (g .0) (inl (g .1)))))
-  full-at (never-at h) k = (λ q. impossible cc, λ g. absurd (h .not-early (early (g .0) (inl (g .1)))))
-
-  large-at : {o : Outcome} → Concluded w capacity o → (k : ℕ)
-      → (Verdict-of o ≡ verdict.Refused (fault.BoundTooLarge (cycleNumber k))) ↔ LargeAt w capacity k
-  large-at (concluded.bound-too-large {k = j} l e f h) k = (
-    λ q. let p : j ≡ k = ap valueOf q in rw (← p) (e, f, h),
-    λ g. ap (λ (i : ℕ). verdict.Refused (fault.BoundTooLarge (cycleNumber i))) (ends-once e (g .0) (inr h) (inr (g .2))),
-  )
-  large-at (concluded.table-full {k = j} e h) k = (
-    λ q. impossible cc,
-    λ g. let p : j ≡ k = ends-once e (g .0) (inl h) (inr (g .2)) in let u = rw (← p) at (g .1) in absurd (omega arith),
-  )
-  large-at (reached-at f s a) k = (λ q. impossible cc, λ g. absurd (a (early (g .0) (inr (g .2)))))
-  large-at (clear-at s u a) k = (λ q. impossible cc, λ g. absurd (a (early (g .0) (inr (g .2)))))
-  large-at (never-at h) k = (λ q. impossible cc, λ g. absurd (h .not-early (early (g .0) (inr (g .2)))))
+  full-at (reached-at f s a) k = (λ q. impossible cc, λ g. absurd (a (early g)))
+  full-at (clear-at s u a) k = (λ q. impossible cc, λ g. absurd (a (early g)))
+  full-at (never-at h) k = (λ q. impossible cc, λ g. absurd (h .not-early (early g)))
 
 -- ---- for a case within the limits, whose table is regular
 module _ (c : Case) (capacity size : ℕ) (limits : InLimits c capacity size) where
@@ -197,20 +167,6 @@ module _ (c : Case) (capacity size : ℕ) (limits : InLimits c capacity size) wh
   concludes : Concluded (network c) capacity (outcome (network c) capacity)
   concludes = conclusion (network c) capacity regular-case some-departures
 
-  -- the outcome bound too large never arises
-  pub not-too-large : (k : ℕ) → outcome (network c) capacity ≡ boundTooLarge k → ⊥
-  not-too-large k e = go concludes e
-    where
-      go : {o : Outcome} → Concluded (network c) capacity o → o ≡ boundTooLarge k → ⊥
-      go (reached-at f s a) e = impossible cc
-      go (concluded.table-full g f) e = impossible cc
-      go (concluded.bound-too-large {k = j} l g f h) e =
-          let limit = limits-of c capacity size limits in
-          let none = none-large (network c) (limit .table .times-small) (limit .target-small) (limit .table .departures .few) j (omega arith) in
-          impossible cc
-      go (clear-at s u a) e = impossible cc
-      go (never-at h) e = impossible cc
-
   pub demand2 : Demand2 c capacity (answer c capacity size)
   unfolding network
   demand2 = rw (answer-in c capacity size limits) (record {
@@ -219,7 +175,6 @@ module _ (c : Case) (capacity size : ℕ) (limits : InLimits c capacity size) wh
     start = started w capacity regular-case some-departures concludes;
     otherwise = otherwise w capacity regular-case some-departures concludes;
     full = full-at w capacity regular-case some-departures concludes;
-    large = large-at w capacity regular-case some-departures concludes;
   })
 
   never-is : (answer c capacity size .verdict ≡ verdict.Never) ↔ NeverHolds (network c) capacity
@@ -257,3 +212,25 @@ packed-demands s capacity work = record {
 pub zones-of-case : (c : Case) (capacity size : ℕ) → InLimits c capacity size → ListsOfZones (network c)
 unfolding network
 zones-of-case c capacity size l = lists-of-zones (network c) (limits-of c capacity size l .table .regular)
+
+-- request [9]'s limits of its lists
+pub limits-of-case : (c : Case) (capacity size : ℕ) → InLimits c capacity size → ListLimits (network c)
+unfolding network
+limits-of-case c capacity size l = let limits = limits-of c capacity size l in list-limits (network c) (limits .table .times-small) (limits .target-small)
+
+pub reserved : Reserved
+reserved (fault.CaseEnds p) e = impossible cc
+reserved fault.Departures e = impossible cc
+reserved fault.Horizon e = impossible cc
+reserved (fault.Time p) e = impossible cc
+reserved (fault.EmptyRow p) e = impossible cc
+reserved (fault.Bound p) e = impossible cc
+reserved (fault.FillBit p) e = impossible cc
+reserved (fault.ExtraByte p) e = impossible cc
+reserved fault.Capacity e = impossible cc
+reserved fault.Workspace e = impossible cc
+reserved (fault.TableFull k) e = impossible cc
+reserved (fault.StartTime i) e = impossible cc
+reserved (fault.Output bytes) e = impossible cc
+reserved fault.Entry e = impossible cc
+reserved (fault.Form p) e = impossible cc

@@ -39,7 +39,6 @@ module _ (c : Case) (capacity : ℕ) (work : List ℤ) (r : Answer) (after : Lis
   unfolding network
   within l e (reached-at {k} f s a) = d .two l .exactly a k .1 f
   within l e (concluded.table-full {k} f h) = d .two l .full k .1 (f, h)
-  within l e (concluded.bound-too-large {k} u f g h) = d .two l .large k .1 (f, g, h)
   within l e (clear-at s unmet a) =
       ⊎-elim (λ t. t) (λ t. let q = not-both l e (d .three l .exactly .0 t) in impossible cc) (d .two l .otherwise a unmet)
   within l e (never-at h) = d .three l .exactly .1 h

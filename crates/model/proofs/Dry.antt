@@ -1,15 +1,12 @@
--- A list that is empty stays so: from there on the target is met at no cycle, and no list is too much.
+-- A list that is empty stays so: from there on the target is met at no cycle, and no list is too long.
 use Prim.Native.Nat.{ℕ, zero, suc, _+_, _-_, _≤_, _<_}
 use native.Mathlib.Omega.{arith}
 use native.Mathlib.Decide.{decLt}
 use mathlib.Core.Path.{_≡_, refl}
-use mathlib.Core.Logic.{⊎-elim}
 use mathlib.Core.List.{[], flatMap}
-use Rattle.ints.proofs.Integers.{impossible}
-use Rattle.model.specs.Lists.{anyOf}
 use Rattle.model.specs.Network.{Network}
-use Rattle.model.specs.Search.{lists, previous, firstCommon, someLarge}
-use Rattle.model.specs.Demands.{Met, TooMuch, RunsDry, EndsEarly}
+use Rattle.model.specs.Search.{lists, previous, firstCommon}
+use Rattle.model.specs.Demands.{Met, RunsDry, EndsEarly}
 use Rattle.model.specs.Conditions.{Regular}
 use Rattle.model.proofs.Searched.{unmet}
 
@@ -22,16 +19,9 @@ module _ (w : Network) where
   pub dry-from : (j k : ℕ) → j ≤ k → lists w j ≡ [] → lists w k ≡ []
   dry-from j k l e = let z : k - j + j ≡ k = omega arith in rw z at (stays j (k - j) e)
 
-  -- it fills no table and has no bound that is too large
-  pub dry-fits : (capacity j k : ℕ) → j ≤ k → lists w j ≡ [] → TooMuch w capacity k → ⊥
-  unfolding someLarge anyOf
-  dry-fits capacity j k l e t =
-      let empty = dry-from j k l e in
-      ⊎-elim (λ h. let u = rw empty at h in omega arith) (λ h. let u = rw empty at h in impossible cc) t
-
   -- so a search ends early before it, if at all
   pub early-before : (capacity j : ℕ) → lists w j ≡ [] → (e : EndsEarly w capacity) → e .at < j
-  early-before capacity j d e = let no : ¬ (j ≤ e .at) = λ l. dry-fits capacity j (e .at) l d (e .too-much) in omega arith
+  early-before capacity j d e = let no : ¬ (j ≤ e .at) = λ l. let h = rw (dry-from j (e .at) l d) at (e .longer) in omega arith in omega arith
 
   -- the target is met at no cycle
   pub dry-beyond : Regular (w .n) (w .times) → RunsDry w → (k : ℕ) → 1 ≤ k → Met w k → ⊥

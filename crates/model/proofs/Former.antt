@@ -21,7 +21,7 @@ use Rattle.model.specs.Bound.{Bound, upto, most, halves, plus, tighter, 
 use Rattle.model.specs.Matrix.{Matrix}
 use Rattle.model.specs.Network.{Time, blank, secs, scaleTime, Network, inParts}
 use Rattle.model.specs.Search.{lists, previous, firstCommon, pick, isStrict, someStrict, partsOf, startIn, Outcome, reached, never, tableFull}
-use Rattle.model.specs.Search.{boundTooLarge, someLarge, dry, settled, searchBy, searchFrom, plan, outcome}
+use Rattle.model.specs.Search.{dry, settled, searchBy, searchFrom, plan, outcome}
 use Rattle.model.specs.Faults.{boundOf, network, patternsFault, formFault}
 use Rattle.model.specs.Answers.{answered, answer}
 use Rattle.model.specs.Demands.{InLimits, Witness, Met}
@@ -101,8 +101,7 @@ module _ (w : Network) (reg : Regular (w .n) (w .times)) (none-strict : someStri
 settledFormer : Network → ℕ → ℕ → List Matrix → Option Outcome
 settledFormer w capacity k zs =
     orElse (when (ltb capacity (length zs)) (tableFull k))
-    (orElse (when (someLarge zs) (boundTooLarge k))
-    (Option·map (λ c. reached k 1 (pick (w .n) c)) (firstCommon (w .n) (w .start) zs)))
+    (Option·map (λ c. reached k 1 (pick (w .n) c)) (firstCommon (w .n) (w .start) zs))
 
 searchFormer : Network → ℕ → ℕ → ℕ → List Matrix → Outcome → Outcome
 searchFormer w capacity r k zs end = searchBy (previous (w .n) (w .times)) (settledFormer w capacity) r k zs end
@@ -115,7 +114,7 @@ module _ (w : Network) (reg : Regular (w .n) (w .times)) (none-strict : someStri
   unfolding settled settledFormer
   settled-former k =
       let zs = lists w k in
-      ap (λ (o : Option Outcome). orElse (when (ltb capacity (length zs)) (tableFull k)) (orElse (when (someLarge zs) (boundTooLarge k)) o))
+      ap (λ (o : Option Outcome). orElse (when (ltb capacity (length zs)) (tableFull k)) o)
       (go (firstCommon (w .n) (w .start) zs) refl)
     where
       go : (o : Option Matrix) → firstCommon (w .n) (w .start) (lists w k) ≡ o

@@ -16,7 +16,7 @@ use Rattle.model.specs.Matrix.{Matrix}
 use Rattle.model.specs.Pattern.{onlyDifferences}
 use Rattle.model.specs.Network.{Network, inParts, clocked, Repeat, repeatOf}
 use Rattle.model.specs.Search.{lists, previous, common, firstCommon, someStrict, partsOf, startIn, Outcome, reached, clear, never, tableFull}
-use Rattle.model.specs.Search.{boundTooLarge, Plan, planWith, plan, someLarge, settled, dry, searchBy, searchFrom, outcome}
+use Rattle.model.specs.Search.{Plan, planWith, plan, settled, dry, searchBy, searchFrom, outcome}
 use Rattle.model.specs.Demands.{Witness, Met, Differences}
 use Rattle.model.specs.Conditions.{Regular, Closed}
 use Rattle.model.proofs.Bounds.{Plain}
@@ -125,22 +125,19 @@ module _ (w : Network) (reg : Regular (w .n) (w .times)) (k : ℕ) where
 -- ---- what list k settles
 pub data Settled (w : Network) (capacity k : ℕ) (zs : List Matrix) : Option Outcome → Type 0 where
   full : capacity < length zs → Settled w capacity k zs (some (tableFull k))
-  large : length zs ≤ capacity → someLarge zs ≡ true → Settled w capacity k zs (some (boundTooLarge k))
-  met : {c : Matrix} → length zs ≤ capacity → someLarge zs ≡ false → firstCommon (w .n) (w .start) zs ≡ some c
+  met : {c : Matrix} → length zs ≤ capacity → firstCommon (w .n) (w .start) zs ≡ some c
       → Settled w capacity k zs (some (reached k (partsOf w) (startIn (w .n) (partsOf w) c)))
-  unsettled : length zs ≤ capacity → someLarge zs ≡ false → firstCommon (w .n) (w .start) zs ≡ none → Settled w capacity k zs none
+  unsettled : length zs ≤ capacity → firstCommon (w .n) (w .start) zs ≡ none → Settled w capacity k zs none
 
 pub settled-is : (w : Network) (capacity k : ℕ) (zs : List Matrix) → Settled w capacity k zs (settled w capacity k zs)
 unfolding settled
-settled-is w capacity k zs = go (ltb capacity (length zs)) (someLarge zs) (firstCommon (w .n) (w .start) zs) refl refl refl
+settled-is w capacity k zs = go (ltb capacity (length zs)) (firstCommon (w .n) (w .start) zs) refl refl
   where
-    go : (s t : Bool) (o : Option Matrix) → ltb capacity (length zs) ≡ s → someLarge zs ≡ t → firstCommon (w .n) (w .start) zs ≡ o
-        → Settled w capacity k zs (orElse (when s (tableFull k)) (orElse (when t (boundTooLarge k))
-        (Option·map (λ c. reached k (partsOf w) (startIn (w .n) (partsOf w) c)) o)))
-    go true t o e f g = full (omega (arith, ltb-true))
-    go false true o e f g = large (omega (arith, ltb-false)) f
-    go false false (some c) e f g = met (omega (arith, ltb-false)) f g
-    go false false none e f g = unsettled (omega (arith, ltb-false)) f g
+    go : (s : Bool) (o : Option Matrix) → ltb capacity (length zs) ≡ s → firstCommon (w .n) (w .start) zs ≡ o
+        → Settled w capacity k zs (orElse (when s (tableFull k)) (Option·map (λ c. reached k (partsOf w) (startIn (w .n) (partsOf w) c)) o))
+    go true o e f = full (omega (arith, ltb-true))
+    go false (some c) e f = met (omega (arith, ltb-false)) f
+    go false none e f = unsettled (omega (arith, ltb-false)) f
 
 -- ---- how a search ends, whatever makes its lists and ends it: at a cycle that ends it, at an empty list, or past all cycles
 -- the cycles from 1 to k do not end it

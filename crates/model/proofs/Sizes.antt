@@ -3,24 +3,23 @@
 use Prim.Native.Nat.{ℕ, zero, suc, _+_, _*_, _≤_}
 use native.Mathlib.Omega.{arith}
 use native.Mathlib.Nat.{mul-le-mul}
-use borrow.Author.Tests.{le-ltb}
 use mathlib.Core.Path.{_≡_, refl}
 use mathlib.Core.List.{List}
-use mathlib.Core.Bool.{false}
-use lib.IntN.{natAbs}
-use Rattle.model.specs.Sizes.{timesApart, mostDepartures, mostCycles, boundLimit, zoneLimit}
-use Rattle.model.specs.Lists.{anyOf, Every, done, both}
+use Rattle.model.specs.Sizes.{timesApart, mostDepartures, mostCycles, boundLimit, listLimit}
+use Rattle.model.specs.Lists.{Every, done, both}
 use Rattle.model.specs.Bound.{Bound}
-use Rattle.model.specs.Matrix.{entry, everything, tighten}
+use Rattle.model.specs.Matrix.{everything, tighten}
 use Rattle.model.specs.Pattern.{patternConstraints}
 use Rattle.model.specs.Network.{Network}
-use Rattle.model.specs.Search.{preimage, lists, previous, large, someLarge}
-use Rattle.model.specs.Conditions.{Small, free, sized, AllSmall, TimesSmall, PatternSmall}
+use Rattle.model.specs.Search.{preimage, lists, previous}
+use Rattle.model.specs.Conditions.{Small, AllSmall, TimesSmall, PatternSmall}
+use Rattle.model.specs.Demands.{AllWithin, ListLimits}
 use Rattle.model.proofs.Listed.{every-map, every-tabulate, every-flatten, map-every, flatMap-every}
 use Rattle.model.proofs.Entries.{every-entry}
 use Rattle.model.proofs.Patterns.{pattern-fits}
-use Rattle.model.proofs.Kept.{kept-every, not-any}
+use Rattle.model.proofs.Kept.{kept-every}
 use Rattle.model.proofs.Selections.{selections-sound}
+use Rattle.model.proofs.Size.{small-mono}
 use Rattle.model.proofs.Spread.{Made, made, made-small}
 use Rattle.model.proofs.PartSizes.{made-preimage}
 
@@ -47,7 +46,6 @@ pub made-everything : (n B : ℕ) → Made n B (everything (suc n))
 unfolding tighten
 made-everything n B = made done done refl
 
--- ---- nothing that a search computes is too large
 -- n * B for the most departures and cycles
 abbrev pub mostSize : ℕ
 mostSize = mostDepartures * (boundLimit + timesApart * mostCycles)
@@ -55,19 +53,23 @@ mostSize = mostDepartures * (boundLimit + timesApart * mostCycles)
 pub most-zone : (n k : ℕ) → n ≤ mostDepartures → k ≤ mostCycles → n * (boundLimit + timesApart * k) ≤ mostSize
 most-zone n k h l = let b : boundLimit + timesApart * k ≤ boundLimit + timesApart * mostCycles = omega arith in mul-le-mul h b
 
-pub zone-limit : (n k : ℕ) → n ≤ mostDepartures → k ≤ mostCycles → n * (boundLimit + timesApart * k) ≤ zoneLimit
-zone-limit n k h l = omega (arith, most-zone n k h l)
-
--- so no finite bound of a list is beyond the limit
-not-large : {B : ℕ} → B ≤ zoneLimit → (b : Bound) → Small B b → large b ≡ false
-unfolding large
-not-large h b free = refl
-not-large h b (sized {z} s) = le-ltb zoneLimit (natAbs z) (omega arith)
+-- ---- request [9]: no finite bound of a list passes its limit
+-- the limit for at most a departures and b cycles
+limit-most : {a b n k : ℕ} → n ≤ a → k ≤ b → listLimit n k ≤ listLimit a b
+limit-most {b} {k} h l = let more : suc k ≤ suc b = omega arith in omega (arith, mul-le-mul h more)
 
 module _ (w : Network) (ts : TimesSmall (w .n) (w .times)) (target-small : PatternSmall (w .n) boundLimit (w .target)) where
-  pub none-large : w .n ≤ mostDepartures → (k : ℕ) → k ≤ mostCycles → someLarge (lists w k) ≡ false
-  unfolding someLarge
-  none-large h k l = not-any (anyOf large) (every-map
-      (λ z m. not-any large (every-entry (suc (w .n)) (λ b. large b ≡ false) z (m .is-closed .size) (λ i j hi hj.
-      not-large (omega (arith, zone-limit (w .n) k h l)) (entry (suc (w .n)) z i j) (made-small m i j hi hj))))
-      (made-lists w ts target-small k))
+  limited : (k limit : ℕ) → listLimit (w .n) k ≤ limit → AllWithin limit (lists w k)
+  limited k limit h =
+      let each : boundLimit + timesApart * k ≤ suc k * boundLimit = omega arith in
+      let same : w .n ≤ w .n = omega arith in
+      let all = mul-le-mul same each in
+      every-map (λ z m. every-entry (suc (w .n)) (Small limit) z (m .is-closed .size) (λ i j hi hj.
+      small-mono (omega (arith, all)) (made-small m i j hi hj))) (made-lists w ts target-small k)
+
+  pub list-limits : ListLimits w
+  list-limits = record {
+    each = λ k. limited k (listLimit (w .n) k) (omega arith);
+    seven = λ few k l. limited k 455000000 (limit-most few l);
+    fifteen = λ few k l. limited k 975000000 (limit-most few l);
+  }

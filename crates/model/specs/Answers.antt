@@ -18,7 +18,7 @@ use Rattle.model.specs.declared.Run.{Run}
 use Rattle.model.specs.Sizes.{mostDepartures}
 use Rattle.model.specs.Lists.{padded}
 use Rattle.model.specs.Network.{inParts, cycles}
-use Rattle.model.specs.Search.{Outcome, reached, clear, never, tableFull, boundTooLarge, outcome}
+use Rattle.model.specs.Search.{Outcome, reached, clear, never, tableFull, outcome}
 use Rattle.model.specs.Faults.{number, returned, network, callFault, runFault}
 use Rattle.model.specs.Packed.{Reading, got, refused, parse, caseOf}
 
@@ -53,7 +53,6 @@ answered (reached k parts xs) = record { verdict = verdict.Reached (cycleNumber 
 answered (clear k) = record { verdict = verdict.Clear (cycleNumber k); parts = 0; start = allTimes [] }
 answered never = record { verdict = verdict.Never; parts = 0; start = allTimes [] }
 answered (tableFull k) = refusal (fault.TableFull (cycleNumber k))
-answered (boundTooLarge k) = refusal (fault.BoundTooLarge (cycleNumber k))
 
 -- the verdict on an unpacked case, with Z and the length of the workspace
 unfoldable pub answer : Case → ℕ → ℕ → Answer

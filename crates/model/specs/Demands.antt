@@ -1,8 +1,8 @@
--- The three demands, as types over the definitions.
+-- The three demands and request [9]'s limits, as types over the definitions.
 use Prim.Native.Nat.{ℕ, suc, _-_, _<_, _≤_}
 use mathlib.Core.Path.{_≡_}
 use mathlib.Core.Logic.{_↔_, _⊎_}
-use mathlib.Core.Bool.{true, false, _||_}
+use mathlib.Core.Bool.{true, _||_}
 use mathlib.Core.List.{List, [], map}
 use mathlib.Core.Option.{none, some}
 use lib.IntN.{ℤ, pos}
@@ -12,11 +12,14 @@ use Rattle.model.specs.declared.Fault.{Fault}
 use Rattle.model.specs.declared.Fault.the-variants as fault
 use Rattle.model.specs.declared.Verdict.the-variants as verdict
 use Rattle.model.specs.declared.Answer.{Answer}
-use Rattle.model.specs.Sizes.{mostCycles}
+use Rattle.model.specs.Sizes.{fewDepartures, mostDepartures, mostCycles, listLimit}
+use Rattle.model.specs.Lists.{Every}
+use Rattle.model.specs.Matrix.{Matrix}
 use Rattle.model.specs.Pattern.{InPattern, onlyDifferences}
 use Rattle.model.specs.Network.{Network, inParts, clocked, cycles, power, added, Repeat}
-use Rattle.model.specs.Search.{lists, someLarge, partsOf, plan}
-use Rattle.model.specs.Faults.{network, callFault, roomFault}
+use Rattle.model.specs.Search.{lists, partsOf, plan}
+use Rattle.model.specs.Conditions.{Small}
+use Rattle.model.specs.Faults.{number, network, callFault, roomFault}
 use Rattle.model.specs.Packed.{got, refused, parse}
 use Rattle.model.specs.Answers.{cycleNumber, Numbers, numbersOf, refusal, answer, workspaceAfter, answerPacked, workspaceAfterPacked}
 
@@ -30,7 +33,6 @@ pub data Ended : Numbers → Type 0 where
   clear : (k : ℕ) → Ended (record { kind = 2; fault = 0; value = k })
   never : Ended (record { kind = 3; fault = 0; value = 0 })
   table-full : (k : ℕ) → Ended (record { kind = 0; fault = 11; value = k })
-  bound-too-large : (k : ℕ) → Ended (record { kind = 0; fault = 12; value = k })
 
 -- of the answer r to a call with this workspace, and the workspace afterwards
 pub record Demand1 (c : Case) (capacity : ℕ) (work : List ℤ) (r : Answer) (after : List ℤ) : Type 0 where
@@ -58,16 +60,12 @@ pub record First (w : Network) (k : ℕ) : Type 0 where
   pub not-before : NotBefore w k
   pub met : Met w k
 
--- list k has more zones than the capacity, or a bound that is too large
-abbrev pub TooMuch : Network → ℕ → ℕ → Type 0
-TooMuch w capacity k = (capacity < length (lists w k)) ⊎ (someLarge (lists w k) ≡ true)
-
--- the search ends early
+-- the search ends early: a list that is searched has more zones than the capacity, and the target is not met before
 pub record EndsEarly (w : Network) (capacity : ℕ) : Type 0 where
   pub at : ℕ
   pub from-one : 1 ≤ at
   pub searched : at ≤ plan w .cycles
-  pub too-much : TooMuch w capacity at
+  pub longer : capacity < length (lists w at)
   pub unmet : NotBefore w at
 
 -- list k is searched, the lists before it fit, and the target is not met before
@@ -75,15 +73,11 @@ pub record EndsAt (w : Network) (capacity k : ℕ) : Type 0 where
   pub from-one : 1 ≤ k
   pub searched : k ≤ plan w .cycles
   pub unmet : NotBefore w k
-  pub fit-before : (j : ℕ) → 1 ≤ j → j < k → (length (lists w j) ≤ capacity) × (someLarge (lists w j) ≡ false)
+  pub fit-before : (j : ℕ) → 1 ≤ j → j < k → length (lists w j) ≤ capacity
 
 -- list k ends the search as table full
 abbrev pub FullAt : Network → ℕ → ℕ → Type 0
 FullAt w capacity k = EndsAt w capacity k × (capacity < length (lists w k))
-
--- as bound too large
-abbrev pub LargeAt : Network → ℕ → ℕ → Type 0
-LargeAt w capacity k = EndsAt w capacity k × (length (lists w k) ≤ capacity) × (someLarge (lists w k) ≡ true)
 
 -- of the answer r, for a case within the limits
 pub record Demand2 (c : Case) (capacity : ℕ) (r : Answer) : Type 0 where
@@ -94,7 +88,6 @@ pub record Demand2 (c : Case) (capacity : ℕ) (r : Answer) : Type 0 where
   pub otherwise : (EndsEarly (network c) capacity → ⊥) → NotBefore (network c) (suc (c .horizon .0))
       → (r .verdict ≡ verdict.Clear (c .horizon)) ⊎ (r .verdict ≡ verdict.Never)
   pub full : (k : ℕ) → (r .verdict ≡ verdict.Refused (fault.TableFull (cycleNumber k))) ↔ FullAt (network c) capacity k
-  pub large : (k : ℕ) → (r .verdict ≡ verdict.Refused (fault.BoundTooLarge (cycleNumber k))) ↔ LargeAt (network c) capacity k
 
 -- start or target bounds only differences
 abbrev pub Differences : Network → Type 0
@@ -162,3 +155,18 @@ pub record PackedGiven (s : List ℕ) (capacity : ℕ) (work : List ℤ) (r : An
   pub answer : r ≡ answerPacked s capacity (length work)
   pub workspace : after ≡ workspaceAfterPacked s capacity work
   pub demands : PackedDemands s capacity work r after
+
+-- ---- request [9]
+-- every finite bound of these zones is at most limit in size, whether strict or not
+abbrev pub AllWithin : ℕ → List Matrix → Type 0
+AllWithin limit zs = Every (Every (Small limit)) zs
+
+-- no finite bound in list k passes n * (k + 1) * 1,000,000 in size, for any k; so much for few departures and for the most, to the last cycle
+pub record ListLimits (w : Network) : Type 0 where
+  pub each : (k : ℕ) → AllWithin (listLimit (w .n) k) (lists w k)
+  pub seven : w .n ≤ fewDepartures → (k : ℕ) → k ≤ mostCycles → AllWithin 455000000 (lists w k)
+  pub fifteen : w .n ≤ mostDepartures → (k : ℕ) → k ≤ mostCycles → AllWithin 975000000 (lists w k)
+
+-- number 12, once of a bound that is too large, is reserved: no fault has it
+abbrev pub Reserved : Type 0
+Reserved = (f : Fault) → ¬ (number f ≡ 12)

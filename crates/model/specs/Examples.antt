@@ -143,7 +143,7 @@ unfolding L.tabulate L.anyOf L.allOf mathlib.Core.List.flatten mathlib.Core.List
     P.onlyDifferences N.time N.isTime N.regular N.later N.latest N.after N.secsOf N.clocked N.next N.cycle N.cycles N.product N.powersFrom N.added N.gap
     N.sameTime L.sameLists N.repeats N.firstRepeat N.repeatOf X.columns X.selections X.chosen X.slack X.attains X.keeps X.rowConstraints X.rowsConstraints
     X.preimage X.keep X.previous X.lists X.common X.firstCommon X.tightest X.above X.below X.greatestOr X.choices X.pick B.scale B.whole X.isStrict
-    X.partsOf X.boundsOf X.wholes X.startIn X.planWith X.plan X.large X.someLarge X.settled X.dry X.searchBy X.searchFrom X.outcome F.timeOf F.boundOf
+    X.partsOf X.boundsOf X.wholes X.startIn X.planWith X.plan X.settled X.dry X.searchBy X.searchFrom X.outcome F.timeOf F.boundOf
     F.network F.beyond F.over F.boundFault F.entryFault F.rowsFault F.outside F.tableFault F.patternsFault F.caseFault F.roomFault F.callFault F.runFault
     answer run N.scaleTime N.inParts runInParts
 all-right = (refl, (refl, (refl, (refl, (refl, (refl, (refl, (refl, (refl, (refl, (refl, (refl, (refl, (refl, (refl, (refl, (refl, rest)))))))))))))))))

@@ -21,7 +21,7 @@ use Rattle.model.specs.Bound as B
 use Rattle.model.specs.Bound.{Bound, upto}
 use Rattle.model.specs.Network.{Time, blank, secs, Network, regular}
 
--- the number and what is returned
+-- the number and what is returned. Number 12 is reserved: document 01's outcome that it stood for cannot occur, as request [9] says
 abbrev pub code : Fault → ℕ × ℕ
 code (fault.CaseEnds p) = (1, p)
 code fault.Departures = (2, 0)
@@ -34,7 +34,6 @@ code (fault.ExtraByte p) = (8, p)
 code fault.Capacity = (9, 0)
 code fault.Workspace = (10, 0)
 code (fault.TableFull k) = (11, k .0)
-code (fault.BoundTooLarge k) = (12, k .0)
 code (fault.StartTime i) = (13, i)
 code (fault.Output bytes) = (14, bytes)
 code fault.Entry = (15, 0)

@@ -1,12 +1,11 @@
 -- Zones, their lists, and the search.
 use Prim.Native.Nat.{ℕ, zero, suc, _-_, min}
-use lib.IntN.{ℤ, pos, negℤ, _-ℤ_, natAbs}
+use lib.IntN.{ℤ, pos, negℤ, _-ℤ_}
 use mathlib.Core.List.{List, [], _∷_, _++_, map, flatten, flatMap, foldl, foldr}
 use mathlib.Core.Option.{Option, none, some, Option·map}
 use mathlib.Core.Bool.{Bool, true, false, _||_, cond}
 use lib.ListN.{getD, length, drop}
 use lib.Dec.{ltb, leb}
-use Rattle.model.specs.Sizes.{zoneLimit}
 use Rattle.model.specs.Lists.{tabulate, anyOf, when, orElse}
 use Rattle.model.specs.Bound as B
 use Rattle.model.specs.Bound.{Bound, upto, most, plus, tighter, scale, whole}
@@ -132,7 +131,6 @@ pub data Outcome : Type 0 where
   clear : ℕ → Outcome
   never : Outcome
   tableFull : ℕ → Outcome
-  boundTooLarge : ℕ → Outcome
 
 -- the searched horizon M, and what it means to get past it
 pub record Plan : Type 0 where
@@ -147,20 +145,11 @@ planWith n (some r) true = record { cycles = min n (r .q - 1); end = cond (leb (
 unfoldable pub plan : Network → Plan
 plan w = planWith (w .horizon) (repeatOf w) (onlyDifferences (w .n) (w .start) || onlyDifferences (w .n) (w .target))
 
--- a finite bound beyond the limit in size
-unfoldable pub large : Bound → Bool
-large B.Bound.none = false
-large (upto s b) = ltb zoneLimit (natAbs b)
-
-unfoldable pub someLarge : List Matrix → Bool
-someLarge zs = anyOf (anyOf large) zs
-
 -- how list k ends the search, if it does
 unfoldable pub settled : Network → ℕ → ℕ → List Matrix → Option Outcome
 settled w capacity k zs =
     orElse (when (ltb capacity (length zs)) (tableFull k))
-    (orElse (when (someLarge zs) (boundTooLarge k))
-    (Option·map (λ c. reached k (partsOf w) (startIn (w .n) (partsOf w) c)) (firstCommon (w .n) (w .start) zs)))
+    (Option·map (λ c. reached k (partsOf w) (startIn (w .n) (partsOf w) c)) (firstCommon (w .n) (w .start) zs))
 
 -- no zone is left
 unfoldable pub dry : List Matrix → Bool

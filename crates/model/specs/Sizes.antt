@@ -15,7 +15,7 @@ mostCycles = 64
 abbrev pub mostZones : ℕ
 mostZones = 4096
 
--- the most that these are in size: a time of the table, a bound of a pattern, a run's start time, a finite bound of a list's zone
+-- the most that these are in size: a time of the table, a bound of a pattern, a run's start time
 abbrev pub timeLimit : ℕ
 timeLimit = 86400
 
@@ -25,8 +25,9 @@ boundLimit = 1000000
 abbrev pub startLimit : ℕ
 startLimit = 1000000000000
 
-abbrev pub zoneLimit : ℕ
-zoneLimit = 2000000000
+-- request [9]'s: a finite bound of list k, with n departures
+abbrev pub listLimit : ℕ → ℕ → ℕ
+listLimit n k = n * suc k * 1000000
 
 -- the most that two times of the table are apart
 abbrev pub timesApart : ℕ

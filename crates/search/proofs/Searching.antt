@@ -16,12 +16,11 @@ use Rattle.model.specs.Lists.{tabulate, done, both}
 use Rattle.model.specs.Matrix.{Matrix, everything}
 use Rattle.model.specs.Network.{Network}
 use Rattle.model.specs.Search.{Outcome, reached, never, tableFull, partsOf, startIn, lists, previous}
-use Rattle.model.specs.Search.{someLarge, firstCommon, settled, dry, searchBy, searchFrom}
+use Rattle.model.specs.Search.{firstCommon, settled, dry, searchBy, searchFrom}
 use Rattle.model.specs.Answers.{answered}
 use Rattle.model.proofs.Listed.{every-both}
 use Rattle.model.proofs.Closed.{everything-closed}
 use Rattle.model.proofs.ZoneLists.{lists-closed}
-use Rattle.model.proofs.Sizes.{none-large}
 use Rattle.model.proofs.Wholes.{W}
 use Rattle.model.proofs.Searched.{parts-few, first-common, parts-enough}
 use Rattle.memory.specs.Numbers.{boundsIn, timesIn}
@@ -36,15 +35,15 @@ module _ (w : Network) (capacity k : ℕ) (zs : List Matrix) where
   unfolding settled
   settled-full h = rw (lt-ltb capacity (length zs) h)
 
-  module _ (room : length zs ≤ capacity) (small : someLarge zs ≡ false) where
+  module _ (room : length zs ≤ capacity) where
     settled-met : {c : Matrix} → firstCommon (w .n) (w .start) zs ≡ some c
         → settled w capacity k zs ≡ some (reached k (partsOf w) (startIn (w .n) (partsOf w) c))
     unfolding settled
-    settled-met e = rw (le-ltb capacity (length zs) room, small, e)
+    settled-met e = rw (le-ltb capacity (length zs) room, e)
 
     settled-on : firstCommon (w .n) (w .start) zs ≡ none → settled w capacity k zs ≡ none
     unfolding settled
-    settled-on e = rw (le-ltb capacity (length zs) room, small, e)
+    settled-on e = rw (le-ltb capacity (length zs) room, e)
 
 -- the search from an empty list on, and a list with a zone
 from-dry : (w : Network) (capacity r k : ℕ) (e : Outcome) → searchFrom w capacity r k [] e ≡ never
@@ -129,9 +128,6 @@ module _ {n parts capacity cycles size : ℕ} {times start target : List ℤ} (q
     few-cycles : suc k ≤ mostCycles
     few-cycles = omega (arith, q .limits .few-cycles, q .within)
 
-    none-beyond : someLarge (lists w (suc k)) ≡ false
-    none-beyond = let l = q .limits in none-large w (l .table .times-small) (l .target-small) (l .table .departures .few) (suc k) few-cycles
-
     pub stepping : {seen : List ℤ} → seenSize n ≤ length seen → Stepping n parts capacity source goal count work times start seen
     unfolding lists
     stepping s =
@@ -178,7 +174,7 @@ module _ {n parts capacity cycles size : ℕ} {times start target : List ℤ} (q
           go : {s : Step} → Stepped n (partsOf w) capacity (suc k) goal (boundsIn start) (lists w (suc k)) after s → s .ended ≡ true
               → s .answer ≡ answered (searchFrom w capacity cycles 1 (lists w 0) e)
           go (full p) t = ap answered (sym (from-here _ (settled-full w capacity (suc k) (lists w (suc k)) p) e))
-          go (met p c) t = ap answered (sym (from-here _ (settled-met w capacity (suc k) (lists w (suc k)) p none-beyond c) e))
+          go (met p c) t = ap answered (sym (from-here _ (settled-met w capacity (suc k) (lists w (suc k)) p c) e))
           go (on p c l) t = impossible cc
 
       pub onward : s .ended ≡ false → length after ≡ length work → Reached after (s .count) goal (suc k)
@@ -194,5 +190,5 @@ module _ {n parts capacity cycles size : ℕ} {times start target : List ℤ} (q
             long = same ∙ r .long;
             at = ⊎-elim (λ e. inr (omega arith)) (λ e. inl (omega arith)) (r .at);
             list = l;
-            rest = from-here none (settled-on w capacity (suc k) (lists w (suc k)) p none-beyond c);
+            rest = from-here none (settled-on w capacity (suc k) (lists w (suc k)) p c);
           }
