@@ -1,17 +1,16 @@
-// Calls the library on a case, unpacked and packed, and writes a line.
+// Makes a call, and writes the answer.
 ghost use Prim.Native.Nat.{_≤_};
-use crate::case_text;
-use crate::cases;
-use crate::packing;
-use crate::packing::Packed;
+use crate::call;
+use crate::call::Call;
+use crate::call::ROOM;
+use crate::call::SIZE;
 use crate::text;
+use ints::Cycle;
 use model::Answer;
-use model::Case;
-use model::DEPARTURES;
+use model::Judged;
+use model::Run;
 use model::Verdict;
-
-// The longest workspace lent: 2 * 4096 * 4 numbers and some more.
-const ROOM: usize = 33000;
+use model::Written;
 
 // What the workspace is filled with before a call.
 const MARK: i32 = 7;
@@ -56,72 +55,49 @@ fn least(a: usize, b: usize) -> usize
     if a < b { a } else { b }
 }
 
-fn on_case(case: Case, capacity: usize, work: &mut [i32]) -> Outcome {
-    let answer = verdict::verdict(case, capacity, work);
-    let state = state_of(work);
-    Outcome {
-        answer,
-        work: state,
-    }
-}
-
-fn on_bytes(bytes: &[u8], capacity: usize, work: &mut [i32]) -> Outcome {
-    let answer = verdict::verdict_packed(bytes, capacity, work);
-    let state = state_of(work);
-    Outcome {
-        answer,
-        work: state,
-    }
-}
-
-// The first numbers of the workspace are lent.
-fn lent_to_case(case: Case, capacity: usize, work: &mut [i32], room: usize) -> Outcome {
-    let size = least(room, work.len());
-    on_case(case, capacity, &mut work[..size])
-}
-
-// The first bytes are the case, and the first numbers of the workspace are lent.
-fn lent_to_bytes(
-    bytes: &[u8],
-    length: usize,
-    capacity: usize,
-    work: &mut [i32],
-    room: usize,
-) -> Outcome {
+fn on_bytes(bytes: &[u8], length: usize, capacity: usize, work: &mut [i32]) -> Answer {
     let end = least(length, bytes.len());
-    let size = least(room, work.len());
-    on_bytes(&bytes[..end], capacity, &mut work[..size])
+    verdict::verdict_packed(&bytes[..end], capacity, work)
 }
 
-fn plain(case: Case, capacity: usize, room: usize) -> Outcome {
-    let mut work = [MARK; ROOM];
-    lent_to_case(case, capacity, &mut work, room)
+// The verdict on the bytes, or on the case.
+fn verdict_on(call: Call, packed: bool, work: &mut [i32]) -> Answer {
+    if packed {
+        let bytes = call.bytes;
+        return on_bytes(&bytes, call.length, call.zones, work);
+    }
+    verdict::verdict(call::case_of(call), call.zones, work)
 }
 
-fn packed_form(packed: Packed, capacity: usize, room: usize) -> Outcome {
-    let mut work = [MARK; ROOM];
-    let bytes = packed.bytes;
-    lent_to_bytes(&bytes, packed.length, capacity, &mut work, room)
-}
-
-// The parts of a second that the start is in, where there are more than one.
-fn write_parts(parts: usize) {
-    if parts > 1 {
-        io::write_all(1, b" of ");
-        text::number(parts);
+fn judged(call: Call, packed: bool, work: &mut [i32]) -> Outcome {
+    let answer = verdict_on(call, packed, work);
+    let state = state_of(work);
+    Outcome {
+        answer,
+        work: state,
     }
 }
 
+fn made(call: Call, packed: bool) -> Outcome {
+    let mut work = [MARK; ROOM];
+    let size = least(call.room, ROOM);
+    judged(call, packed, &mut work[..size])
+}
+
+// The parts of a second that the start is in are told where there are more than one.
 fn write_verdict(verdict: Verdict, parts: usize) {
     match verdict {
         Verdict::Reached(k) => {
             io::write_all(1, b"reached ");
-            text::number(k.0);
-            write_parts(parts);
+            io::print_decimal(1, k.0 as u64);
+            if parts > 1 {
+                io::write_all(1, b" of ");
+                io::print_decimal(1, parts as u64);
+            }
         }
         Verdict::Clear(horizon) => {
             io::write_all(1, b"clear ");
-            text::number(horizon.0);
+            io::print_decimal(1, horizon.0 as u64);
         }
         Verdict::Never => {
             io::write_all(1, b"never");
@@ -131,15 +107,13 @@ fn write_verdict(verdict: Verdict, parts: usize) {
 }
 
 fn write_work(work: u8) {
-    if work == CLEARED {
-        io::write_all(1, b", workspace zero");
-    } else if work == UNCHANGED {
-        io::write_all(1, b", workspace unchanged");
-    } else if work == EMPTY {
-        io::write_all(1, b", workspace empty");
-    } else {
-        io::write_all(1, b", workspace changed");
+    match work {
+        CLEARED => io::write_all(1, b", workspace zero"),
+        UNCHANGED => io::write_all(1, b", workspace unchanged"),
+        EMPTY => io::write_all(1, b", workspace empty"),
+        _ => io::write_all(1, b", workspace changed"),
     }
+    ;
 }
 
 fn write_outcome(outcome: Outcome) {
@@ -167,21 +141,14 @@ fn same(a: Outcome, b: Outcome) -> bool {
         && a.work == b.work
 }
 
-// The rest of a line for a packed case.
-pub(crate) fn packed_answer(packed: Packed, capacity: usize, room: usize) {
-    io::write_all(1, b": ");
-    write_outcome(packed_form(packed, capacity, room));
-    io::write_all(1, b"\n");
-}
-
-// What the packed form of a case gives, beside the unpacked one.
-fn compared(form: &[u8], written: Packed, unpacked: Outcome, capacity: usize, room: usize) {
-    io::write_all(1, form);
+// What a packed form of the case gives, beside the unpacked one.
+fn compared(call: Call, wide: bool, unpacked: Outcome) {
+    let written = call::packed(call, wide);
     if written.length == 0 {
         io::write_all(1, b"refused");
         return;
     }
-    let packed = packed_form(written, capacity, room);
+    let packed = made(written, true);
     if same(unpacked, packed) {
         io::write_all(1, b"the same");
     } else {
@@ -189,54 +156,51 @@ fn compared(form: &[u8], written: Packed, unpacked: Outcome, capacity: usize, ro
     }
 }
 
-// The rest of a line for a case, unpacked and in both forms.
-pub(crate) fn both_answers(case: Case, capacity: usize, room: usize) {
-    io::write_all(1, b": ");
-    let unpacked = plain(case, capacity, room);
+fn both(call: Call) {
+    let unpacked = made(call, false);
     write_outcome(unpacked);
-    compared(b"; packed ", packing::pack(case), unpacked, capacity, room);
-    compared(
-        b"; wide ",
-        packing::pack_wide(case),
-        unpacked,
-        capacity,
-        room,
-    );
-    io::write_all(1, b"\n");
+    io::write_all(1, b"; packed ");
+    compared(call, false, unpacked);
+    io::write_all(1, b"; wide ");
+    compared(call, true, unpacked);
 }
 
-// A line for a case in both forms.
-pub(crate) fn line(case: Case, capacity: usize, room: usize) {
-    case_text::call(case, capacity, room);
-    both_answers(case, capacity, room);
-}
-
-// 2 * 128 * (n + 1) * (n + 1), the numbers that Z = 128 needs.
-pub(crate) fn exact(n: usize) -> usize {
-    if n > DEPARTURES {
-        return 1024;
+fn write_run(run: Run) {
+    let judged = run.judged;
+    let times = run.times;
+    if let Judged::Refused(fault) = judged {
+        text::refused(fault);
+        io::write_all(1, b", ");
     }
-    256 * cases::product(n + 1, n + 1)
+    io::write_all(1, b"times");
+    text::times(times);
 }
 
-// A line for a case in both forms, with Z = 128 and as long a workspace as needed.
-pub(crate) fn example(case: Case) {
-    line(case, 128, exact(case.n));
+fn written(call: Call) {
+    let mut bytes = [0u8; SIZE];
+    let size = least(call.size, SIZE);
+    match call::write(call::case_of(call), call.wide, &mut bytes[..size]) {
+        Written::Bytes(length) => {
+            io::print_decimal(1, length as u64);
+            io::write_all(1, b" bytes");
+        }
+        Written::Refused(fault) => text::refused(fault),
+    }
 }
 
-// The same with a note on what the case holds besides.
-pub(crate) fn noted(note: &[u8], case: Case) {
-    let room = exact(case.n);
-    case_text::call(case, 128, room);
-    io::write_all(1, note);
-    both_answers(case, 128, room);
-}
-
-// A line for an unpacked case that has no packed form.
-pub(crate) fn unpacked_line(case: Case) {
-    let room = exact(case.n);
-    case_text::call(case, 128, room);
-    io::write_all(1, b", unpacked: ");
-    write_outcome(plain(case, 128, room));
-    io::write_all(1, b"\n");
+pub(crate) fn answer(call: Call) {
+    let what = call.what;
+    let from = call.from;
+    if call.bad {
+        io::write_all(1, b"NOT READ");
+        return;
+    }
+    match what {
+        0 => both(call),
+        b'U' => write_outcome(made(call, false)),
+        b'y' => write_outcome(made(call, true)),
+        b'R' => write_run(runs::run(call::case_of(call), from, Cycle(call.size))),
+        b'D' => write_run(runs::run_parts(call::case_of(call), from, Cycle(call.size))),
+        _ => written(call),
+    }
 }

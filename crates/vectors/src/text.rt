@@ -3,24 +3,11 @@ use ints::Seconds;
 use model::DEPARTURES;
 use model::Fault;
 
-pub(crate) fn number(n: usize) {
-    io::print_decimal(1, n as u64);
-}
-
-fn size(time: Seconds, minus: bool) {
-    if minus {
+fn signed(time: Seconds) {
+    if time.0 < 0 {
         io::write_all(1, b"-");
     }
     io::print_decimal(1, puts::magnitude(time));
-}
-
-pub(crate) fn signed(time: Seconds) {
-    size(time, time.0 < 0);
-}
-
-// A number with its sign changed.
-pub(crate) fn opposite(time: Seconds) {
-    size(time, time.0 > 0);
 }
 
 // All times.
@@ -44,7 +31,7 @@ pub(crate) fn same_times(a: [Seconds; DEPARTURES], b: [Seconds; DEPARTURES]) -> 
 
 pub(crate) fn refused(fault: Fault) {
     io::write_all(1, b"refused ");
-    number(fault.number() as usize);
+    io::print_decimal(1, fault.number() as u64);
     io::write_all(1, b" ");
-    number(fault.returned());
+    io::print_decimal(1, fault.returned() as u64);
 }
