@@ -10,9 +10,11 @@
  *             that no bound can be too large;
  *   *value    k for TRAMCHECK_REACHED, N for TRAMCHECK_CLEAR, 0 for TRAMCHECK_NEVER, what the fault returns for TRAMCHECK_REFUSED:
  *             its place, the cycle of 11 (table full), the departure of 13, the bytes needed of 14, or 0;
+ *             from tramcheck_decide the number of cycles that were asked for where it is TRAMCHECK_CLEAR, and where it is TRAMCHECK_UNDECIDED the
+ *             cycle at which the steps ran out;
  *             for TRAMCHECK_DONE the number of bytes written or read, 0 for a change committed;
  *   *parts    D, the parts of a second in which the start is handed back: 1 if no bound of the two patterns is strict, else n + 1; 0 for every verdict
- *             other than TRAMCHECK_REACHED;
+ *             other than TRAMCHECK_REACHED, for TRAMCHECK_UNDECIDED too;
  *   the fifteen times  a start that reaches the target, in Dths of a second, the latest of its zone: departures 1 to n in turn, each the latest possible
  *             given those before it, the earliest if there is no latest, 0 if there is neither, where less than b seconds is at most b * D - 1 parts;
  *             0 beyond n and for every other verdict.
@@ -38,13 +40,15 @@ enum {
     TRAMCHECK_REACHED = 1,
     TRAMCHECK_CLEAR = 2,
     TRAMCHECK_NEVER = 3,
-    TRAMCHECK_DONE = 4
+    TRAMCHECK_DONE = 4,
+    TRAMCHECK_UNDECIDED = 5
 };
 
 /* The functions' names for the linker. They are others than before there were fifteen departures: the arrays are longer, so what was compiled with an
  * older header must not be linked. Source needs no change but to be compiled again. */
 #define tramcheck_verdict tramcheck_verdict_15
 #define tramcheck_verdict_unpacked tramcheck_verdict_unpacked_15
+#define tramcheck_decide tramcheck_decide_15
 #define tramcheck_preview tramcheck_preview_15
 #define tramcheck_commit tramcheck_commit_15
 #define tramcheck_run tramcheck_run_15
@@ -77,6 +81,20 @@ uint32_t tramcheck_verdict_unpacked(size_t n, size_t horizon, const uint8_t pres
                                     const uint8_t strict[TRAMCHECK_ENTRIES], const int64_t values[TRAMCHECK_ENTRIES], size_t capacity,
                                     int32_t *work, size_t work_length, size_t *fault, size_t *value, size_t *parts,
                                     int64_t start[TRAMCHECK_DEPARTURES]);
+
+/* The exact answer on an unpacked case, over cycles 1 to cycles. It needs no workspace, and there is no table that can be full. The horizon is the case's
+ * own N: it is judged as ever, and otherwise not used. Faults in this order: the case's own, 2 to 6; 3 for cycles outside 1 to 4,096. steps is how many
+ * columns may be tried, in all cycles together; 10,000,000 for a caller without a wish. Returns
+ *   TRAMCHECK_REACHED    with the first cycle at which a start reaches the target, and such a start. It is one of its own, and may be another than that
+ *                        of tramcheck_verdict;
+ *   TRAMCHECK_CLEAR      with cycles in *value: none of these cycles is one;
+ *   TRAMCHECK_NEVER      there is no such cycle, without end;
+ *   TRAMCHECK_UNDECIDED  with the cycle k at which the steps ran out: nothing is met at cycles 1 to k - 1, and nothing is said of the others;
+ *   TRAMCHECK_REFUSED    for a fault.
+ * A call takes less than 256 KiB of the stack. */
+uint32_t tramcheck_decide(size_t n, size_t horizon, const uint8_t present[TRAMCHECK_ENTRIES], const uint8_t strict[TRAMCHECK_ENTRIES],
+                          const int64_t values[TRAMCHECK_ENTRIES], size_t cycles, size_t steps, size_t *fault, size_t *value,
+                          size_t *parts, int64_t start[TRAMCHECK_DEPARTURES]);
 
 /* The verdict on an unpacked case with the time in one row and column, both counted from 1, replaced, or blanked where has is 0. Faults in this order: the
  * case's own, 2 to 6, in the entry that would be replaced too; 15 for a row or column outside 1 to n; of the changed time 4 or 5; 9; 10. The arrays are only

@@ -6,7 +6,6 @@ use crate::families::Family;
 use crate::measure::{library, median, plain};
 use crate::table::{ratio, words};
 use crate::{hex, of_hex};
-use evidence::archive::Answer;
 use evidence::case::Case;
 use std::env;
 use std::hint::black_box;
@@ -63,7 +62,7 @@ fn computed() -> f64 {
 }
 
 /// The seconds of one call, over a turn, and the answer.
-pub fn turn(mut version: impl FnMut() -> Option<Answer>) -> (f64, Option<Answer>) {
+pub fn turn<A>(mut version: impl FnMut() -> A) -> (f64, A) {
     let (begin, before) = (Instant::now(), computed());
     let mut calls = 0.0;
     loop {

@@ -2,6 +2,9 @@
 
 pub mod compare;
 pub mod copying;
+pub mod decide;
+pub mod decide_slowest;
+pub mod descent;
 pub mod dropping;
 pub mod families;
 pub mod fifteen;
@@ -11,6 +14,7 @@ pub mod measure;
 pub mod network;
 pub mod one_by_one;
 pub mod packing;
+pub mod questions;
 pub mod rows;
 pub mod search;
 pub mod sets;

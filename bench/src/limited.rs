@@ -2,11 +2,13 @@
 //! a case, which is ended after a limit.
 
 use crate::compare::turn;
+use crate::decide;
 use crate::families::Family;
-use crate::measure::{library, median, plain};
+use crate::measure::{library, library_with, median, plain};
 use crate::table::{ratio, words};
 use crate::{hex, of_hex, packed};
 use evidence::case::Case;
+use std::fmt::Debug;
 use std::io::{self, Read, Write};
 use std::path::Path;
 use std::process::{Child, Command, Stdio};
@@ -37,9 +39,9 @@ cases, ratios medians over those that both versions end. Stopped: cases that are
 not ended after 10 seconds, which count as longer than all others.";
 
 /// What a version took on a case and answered.
-struct Ended {
-    seconds: f64,
-    answer: String,
+pub struct Ended {
+    pub seconds: f64,
+    pub answer: String,
 }
 
 /// What both versions did on a case; none if it was stopped.
@@ -53,13 +55,21 @@ struct Both {
 pub fn one(version: &str) -> Result<(), String> {
     let line = io::read_to_string(io::stdin()).map_err(|error| error.to_string())?;
     let case = of_hex(line.trim_end())?;
-    let (seconds, answer) = match version {
-        "library" => turn(library(&case)),
-        "plain" => turn(plain(&case)),
+    match version {
+        "library" => say(turn(library(&case))),
+        "plain" => say(turn(plain(&case))),
+        "zones 128" => say(turn(library_with(&case, 128))),
+        "zones 4096" => say(turn(library_with(&case, 4096))),
+        "decide" => say(turn(decide::library(&case))),
+        "plain decide" => say(turn(decide::plain(&case))),
         _ => return Err(format!("no version {version}")),
-    };
-    println!("{seconds} {answer:?}");
+    }
     Ok(())
+}
+
+/// Prints the seconds and the answer of a turn.
+fn say<A: Debug>((seconds, answer): (f64, A)) {
+    println!("{seconds} {answer:?}");
 }
 
 /// Whether a process ends by itself within the limit; otherwise it is ended.
@@ -101,7 +111,7 @@ fn one_turn(version: &str, case: &Case) -> io::Result<Option<Ended>> {
 }
 
 /// The least of a version's turns on a case.
-fn least(version: &str, case: &Case) -> io::Result<Option<Ended>> {
+pub fn least(version: &str, case: &Case) -> io::Result<Option<Ended>> {
     let mut least = one_turn(version, case)?;
     for _ in 1..TURNS {
         match &mut least {
@@ -126,12 +136,12 @@ fn both(case: &Case) -> io::Result<Both> {
 }
 
 /// The seconds of a version, without end where it was stopped.
-fn seconds(ended: &Option<Ended>) -> f64 {
+pub fn seconds(ended: &Option<Ended>) -> f64 {
     ended.as_ref().map_or(f64::INFINITY, |ended| ended.seconds)
 }
 
 /// Seconds in words.
-fn time(seconds: f64) -> String {
+pub fn time(seconds: f64) -> String {
     match seconds.is_finite() {
         true => words(seconds),
         false => format!("over {} s", LIMIT.as_secs()),

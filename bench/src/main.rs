@@ -2,6 +2,10 @@
 //!
 //!     bench                        all families, dropping, packing, and z3
 //!     bench WORD...                families whose names have one of the words
+//!     bench decide WORD...         decisions where the table of zones runs full
+//!     bench decide-slowest N SEED SECONDS
+//!                                  a search for a slow decision
+//!     bench decide-case HEX        the decision on one packed case
 //!     bench dropping               what dropping equal sets saves
 //!     bench fifteen WORD...        families of 15 departures, with a time limit
 //!     bench packing                writing and reading packed cases
@@ -11,11 +15,14 @@
 //!     bench slowest SEED STEPS     a search for a slow case
 //!     bench case HEX               one packed case
 //!
-//! `bench turns`, `bench once` and `bench one` are what compare, copying and fifteen
-//! start.
+//! `bench turns`, `bench once` and `bench one` are what compare, copying, decide and
+//! fifteen start.
 
 use bench::families::{self, Family};
-use bench::{compare, copying, dropping, fifteen, limited, packing, slowest, table, z3};
+use bench::{
+    compare, copying, decide, decide_slowest, dropping, fifteen, limited, packing, questions,
+    slowest, table, z3,
+};
 use std::env;
 use std::process::ExitCode;
 
@@ -49,6 +56,10 @@ fn run(words: &[&str]) -> Result<(), String> {
         }
         ["fifteen", words @ ..] => limited::print(&among(fifteen::all(), words))
             .map_err(|error| format!("fifteen departures: {error}")),
+        ["decide", words @ ..] => decide::print(&among(questions::all(), words))
+            .map_err(|error| format!("decisions: {error}")),
+        ["decide-case", hex] => decide::one(hex),
+        ["decide-slowest", n, seed, seconds] => decide_slowest::search(n, seed, seconds),
         ["one", version] => limited::one(version),
         ["once"] => copying::once(),
         ["turns"] => compare::turns(),

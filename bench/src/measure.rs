@@ -86,8 +86,12 @@ impl<'a> Timed<'a> {
 
 /// The library on a case, with memory lent to it.
 pub fn library(case: &Case) -> impl FnMut() -> Option<Answer> + '_ {
+    library_with(case, capacity(case.n))
+}
+
+/// The same with room for so many zones.
+pub fn library_with(case: &Case, zones: usize) -> impl FnMut() -> Option<Answer> + '_ {
     let entries = case.entries();
-    let zones = capacity(case.n);
     let mut work = vec![0; workspace(case.n, zones)];
     move || archive::verdict_entries(case.n, case.horizon, &entries, zones, &mut work).ok()
 }

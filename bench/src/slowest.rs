@@ -150,7 +150,8 @@ fn print(case: &Case) {
     );
 }
 
-fn number<T: std::str::FromStr>(text: &str) -> Result<T, String> {
+/// A number that is given as an argument.
+pub fn number<T: std::str::FromStr>(text: &str) -> Result<T, String> {
     text.parse().map_err(|_| format!("{text} is not a number"))
 }
 

@@ -5,8 +5,9 @@ use crate::measure::median;
 use crate::table::words;
 use crate::{hex, packed};
 use evidence::archive::{self, Verdict};
-use evidence::case::{pair, Case, Pattern};
+use evidence::case::Case;
 use evidence::faults::workspace;
+use evidence::solver::{formula, version};
 use evidence::text::capacity;
 use std::env;
 use std::fs::{self, File};
@@ -17,68 +18,6 @@ use std::time::Instant;
 
 /// Times that each program is run on a case, in turn.
 const ROUNDS: usize = 11;
-
-/// The variable of a departure in a cycle; departure 0 is the clock's zero.
-fn variable(cycle: usize, departure: usize) -> String {
-    match departure {
-        0 => "zero".to_string(),
-        _ => format!("x{cycle}_{departure}"),
-    }
-}
-
-/// A whole number as SMT-LIB writes it.
-fn number(value: i64) -> String {
-    match value {
-        0.. => value.to_string(),
-        _ => format!("(- {})", value.unsigned_abs()),
-    }
-}
-
-/// A comparison of a difference of two variables with a number.
-fn compared(sign: &str, one: &str, other: &str, value: i64) -> String {
-    format!("({sign} (- {one} {other}) {})", number(value))
-}
-
-/// A pattern without strict bounds over the variables of a cycle.
-fn pattern(n: usize, cycle: usize, pattern: &Pattern) -> Vec<String> {
-    let pairs = (0..=n).flat_map(|i| (0..=n).map(move |j| (i, j)));
-    let stated = pairs.filter(|(i, j)| i != j).filter_map(|(i, j)| {
-        let bound = pattern[pair(n, i, j)]?;
-        let (one, other) = (variable(cycle, i), variable(cycle, j));
-        Some(compared("<=", &one, &other, bound.value))
-    });
-    stated.collect()
-}
-
-/// Equation 10 for row i: no sum is more than the time of cycle 1, and one of
-/// them is that time.
-fn row(case: &Case, i: usize) -> Vec<String> {
-    let next = variable(1, i + 1);
-    let sums = |sign: &str| {
-        let columns = (0..case.n).filter_map(|j| Some((j, case.time(i, j)?)));
-        let sum = |(j, time)| compared(sign, &next, &variable(0, j + 1), time);
-        columns.map(sum).collect::<Vec<_>>()
-    };
-    let mut parts = sums(">=");
-    parts.push(format!("(or {})", sums("=").join(" ")));
-    parts
-}
-
-/// Equation 12 for one cycle, as SMT-LIB 2. All numbers are whole, so whole
-/// times meet it if any do.
-pub fn formula(case: &Case) -> String {
-    let mut lines = vec!["(set-logic QF_IDL)".to_string()];
-    let departures = (0..=1).flat_map(|cycle| (1..=case.n).map(move |i| (cycle, i)));
-    for (cycle, i) in [(0, 0)].into_iter().chain(departures) {
-        lines.push(format!("(declare-fun {} () Int)", variable(cycle, i)));
-    }
-    let mut parts = pattern(case.n, 0, &case.start);
-    parts.extend((0..case.n).flat_map(|i| row(case, i)));
-    parts.extend(pattern(case.n, 1, &case.target));
-    lines.extend(parts.iter().map(|part| format!("(assert {part})")));
-    lines.push("(check-sat)\n".to_string());
-    lines.join("\n")
-}
 
 /// The program, at its place in the repository unless told otherwise.
 fn program() -> PathBuf {
@@ -120,7 +59,8 @@ fn write(path: &Path, bytes: &[u8]) -> io::Result<()> {
 fn compare(case: &Case, folder: &Path) -> io::Result<(f64, f64)> {
     let (file, smt) = (folder.join("case"), folder.join("case.smt2"));
     write(&file, &packed(case))?;
-    write(&smt, formula(case).as_bytes())?;
+    // Equation 12 of document 000.
+    write(&smt, formula(case, 1).as_bytes())?;
     let expected = met(case);
     let (mut ours, mut theirs) = (Vec::new(), Vec::new());
     for _ in 0..ROUNDS {
@@ -138,8 +78,7 @@ fn compare(case: &Case, folder: &Path) -> io::Result<(f64, f64)> {
 
 /// Prints the comparison, or that a program for it is missing.
 pub fn print() -> io::Result<()> {
-    let version = Command::new("z3").arg("--version").output();
-    let Ok(Output { stdout, .. }) = version else {
+    let Some(version) = version() else {
         println!("\nz3 is not here; the comparison with it is left out.");
         return Ok(());
     };
@@ -147,7 +86,7 @@ pub fn print() -> io::Result<()> {
         println!("\nThe program is not built; the comparison with z3 is left out.");
         return Ok(());
     }
-    println!("\n{}", String::from_utf8_lossy(&stdout).trim_end());
+    println!("\n{version}");
     println!("\n| 7 departures, no blank, one cycle | program | z3 | z3 / program |");
     println!("|---|---|---|---|");
     let folder = env::temp_dir().join(format!("bench-{}", std::process::id()));

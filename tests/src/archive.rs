@@ -28,6 +28,25 @@ pub struct Answer {
     pub start: Times,
 }
 
+/// What was decided about a case, cycle by cycle and without a table of zones.
+#[derive(Clone, Copy, Debug, PartialEq, Eq)]
+pub enum Decided {
+    Refused(Fault),
+    Reached { cycle: usize },
+    Clear { cycles: usize },
+    Never,
+    Undecided { cycle: usize },
+}
+
+/// A decision and the start handed back, in parts of a second as in an answer.
+/// All are 0 unless reached.
+#[derive(Clone, Copy, Debug, PartialEq, Eq)]
+pub struct Decision {
+    pub decided: Decided,
+    pub parts: usize,
+    pub start: Times,
+}
+
 /// A run's fault, if any, and the times of its cycle, 0 if refused.
 #[derive(Clone, Copy, Debug, PartialEq, Eq)]
 pub struct Run {
@@ -95,6 +114,20 @@ extern "C" {
         capacity: usize,
         work: *mut i32,
         work_length: usize,
+        fault: *mut usize,
+        value: *mut usize,
+        parts: *mut usize,
+        start: *mut i64,
+    ) -> u32;
+    #[link_name = "tramcheck_decide_15"]
+    fn tramcheck_decide(
+        n: usize,
+        horizon: usize,
+        present: *const u8,
+        strict: *const u8,
+        values: *const i64,
+        cycles: usize,
+        steps: usize,
         fault: *mut usize,
         value: *mut usize,
         parts: *mut usize,
@@ -246,6 +279,23 @@ impl Results {
         })
     }
 
+    /// The decision that they stand for.
+    fn decision(&self, kind: u32) -> Result<Decision, Unknown> {
+        let decided = match (kind, self.fault, self.value) {
+            (0, number @ 2..=6, returned) => Decided::Refused(Fault { number, returned }),
+            (1, 0, cycle) => Decided::Reached { cycle },
+            (2, 0, cycles) => Decided::Clear { cycles },
+            (3, 0, 0) => Decided::Never,
+            (5, 0, cycle) => Decided::Undecided { cycle },
+            (kind, fault, value) => return Err(Unknown { kind, fault, value }),
+        };
+        Ok(Decision {
+            decided,
+            parts: self.parts,
+            start: self.times,
+        })
+    }
+
     /// The same for a run, whose cycle is the value where it is accepted.
     fn run(&self, kind: u32, cycle: usize) -> Result<Run, Unknown> {
         let judged = match (kind, self.fault, self.value) {
@@ -330,6 +380,40 @@ pub fn verdict_entries(
         )
     };
     results.answer(kind)
+}
+
+/// Decides a case over 1 to 4,096 cycles, with so many steps: columns that may be
+/// tried. The case's own horizon is judged and otherwise not used.
+pub fn decide(case: &Case, cycles: usize, steps: usize) -> Result<Decision, Unknown> {
+    decide_entries(case.n, case.horizon, &case.entries(), cycles, steps)
+}
+
+/// The same for a case in the layout that the archive reads.
+pub fn decide_entries(
+    n: usize,
+    horizon: usize,
+    entries: &Entries,
+    cycles: usize,
+    steps: usize,
+) -> Result<Decision, Unknown> {
+    let mut results = Results::new();
+    // The pointers are good as in `verdict`; each array has 705 places.
+    let kind = unsafe {
+        tramcheck_decide(
+            n,
+            horizon,
+            entries.present.as_ptr(),
+            entries.strict.as_ptr(),
+            entries.values.as_ptr(),
+            cycles,
+            steps,
+            &mut results.fault,
+            &mut results.value,
+            &mut results.parts,
+            results.times.as_mut_ptr(),
+        )
+    };
+    results.decision(kind)
 }
 
 /// The times of cycle `cycle` from the start times `start`, in whole seconds.

@@ -2,10 +2,11 @@
 //! workspace and looking at it afterwards, and naming a case that failed.
 
 use crate::archive::{Answer, Fault, Verdict};
-use crate::case::{Case, Entries, BOUNDS, DEPARTURES, ENTRIES, START, TARGET, TIMES};
+use crate::case::{Case, Entries, Times, BOUNDS, DEPARTURES, ENTRIES, START, TARGET, TIMES};
+use crate::enumeration::{first_in_box, in_parts, tried_parts};
 use crate::faults;
-use crate::random::Random;
-use crate::selections::{search, without_start};
+use crate::random::{Random, Trial};
+use crate::selections::{parts_of, search, without_start};
 
 /// The answer that refuses with a fault.
 pub fn refused(fault: Fault) -> Answer {
@@ -54,6 +55,57 @@ pub fn of_unpacked(case: &Case, capacity: usize, work_length: usize) -> Answer {
         Err(fault) => refused(fault),
         Ok(()) => of_good_case(case, capacity, work_length),
     }
+}
+
+/// The parts of a second in which starts are looked for: in all that are tried
+/// where a bound is strict, else in seconds and in (n + 1)ths.
+fn parts_looked_at(case: &Case) -> Vec<usize> {
+    match parts_of(case) {
+        1 => vec![1, case.n + 1],
+        _ => tried_parts(case.n).collect(),
+    }
+}
+
+/// How far a box goes, in parts of a second. With many departures only its centre
+/// is looked at.
+fn radius(n: usize, parts: usize) -> i64 {
+    let second = parts as i64;
+    let radii = match parts {
+        1 => [12, 4, 2, 1, 0],
+        _ => [6 * second, 2 * second, second / 2 + 1, 1, 1],
+    };
+    radii.get(n - 1).copied().unwrap_or(0)
+}
+
+/// The hidden start in other parts of a second, or the last ones before it.
+fn near_in(trial: &Trial, parts: usize) -> Times {
+    let own = trial.parts as i64;
+    trial.near.map(|time| (time * parts as i64).div_euclid(own))
+}
+
+/// A start that is in the target at a cycle from 1 to `limit`, if a box around the
+/// clock's zero or around the hidden start has one, in whatever parts of a second.
+#[derive(Clone, Copy, Debug, PartialEq, Eq)]
+pub struct MetInABox {
+    pub parts: usize,
+    pub cycle: usize,
+    pub start: Times,
+}
+
+/// Looks for such a start by brute search 1.
+pub fn met_in_a_box(trial: &Trial, limit: usize) -> Option<MetInABox> {
+    let case = &trial.case;
+    parts_looked_at(case).into_iter().find_map(|parts| {
+        let scaled = in_parts(case, parts);
+        let centres = [[0; DEPARTURES], near_in(trial, parts)];
+        let met = |centre| first_in_box(&scaled, centre, radius(case.n, parts), limit);
+        let (cycle, start) = centres.iter().find_map(met)?;
+        Some(MetInABox {
+            parts,
+            cycle,
+            start,
+        })
+    })
 }
 
 /// Numbers or bytes on each side of what is lent that no call may touch.

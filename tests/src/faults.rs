@@ -261,6 +261,15 @@ pub fn of_call(n: usize, capacity: usize, work_length: usize) -> Result<(), Faul
     Ok(())
 }
 
+/// The faults of a decision: the case's own, 2 to 6, then 3 for its cycles.
+pub fn of_decision(case: &Case, cycles: usize) -> Result<(), Fault> {
+    of_case(case)?;
+    match cycles {
+        1..=4096 => Ok(()),
+        _ => Err(fault(3, 0)),
+    }
+}
+
 /// The place of the entry that would be changed, or the case's own faults 2 to
 /// 6, then 15.
 pub fn of_change(case: &Case, change: &Change) -> Result<usize, Fault> {

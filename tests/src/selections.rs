@@ -38,7 +38,7 @@ impl Bounds {
     }
 
     /// The bound on x(i) - x(j).
-    fn at(&self, i: usize, j: usize) -> Option<Bound> {
+    pub fn at(&self, i: usize, j: usize) -> Option<Bound> {
         self.bounds[i * (self.n + 1) + j]
     }
 
@@ -68,13 +68,15 @@ impl Bounds {
     pub fn closed(mut self) -> Option<Bounds> {
         let size = self.n + 1;
         for via in 0..size {
-            for i in 0..size {
-                let Some(left) = self.at(i, via) else {
+            let onward = self.bounds[via * size..(via + 1) * size].to_vec();
+            for ways in self.bounds.chunks_mut(size) {
+                let Some(left) = ways[via] else {
                     continue;
                 };
-                for j in 0..size {
-                    if let Some(right) = self.at(via, j) {
-                        self.add(i, j, sum(left, right));
+                for (known, right) in ways.iter_mut().zip(&onward) {
+                    let way = right.map(|right| sum(left, right));
+                    if way.is_some_and(|way| known.is_none_or(|known| tighter(way, known))) {
+                        *known = way;
                     }
                 }
             }
@@ -199,7 +201,7 @@ pub fn next_list(
 }
 
 /// The max-plus product of the table and a power.
-fn product(case: &Case, power: &[Option<i64>]) -> Vec<Option<i64>> {
+pub fn product(case: &Case, power: &[Option<i64>]) -> Vec<Option<i64>> {
     let n = case.n;
     let entry = |i: usize, j: usize| {
         let sums = (0..n).filter_map(|l| Some(case.time(i, l)? + power[l * n + j]?));
@@ -211,7 +213,7 @@ fn product(case: &Case, power: &[Option<i64>]) -> Vec<Option<i64>> {
 }
 
 /// The one number that makes one power of the other when added to every time.
-fn added(one: &[Option<i64>], other: &[Option<i64>]) -> Option<i64> {
+pub fn added(one: &[Option<i64>], other: &[Option<i64>]) -> Option<i64> {
     let mut number = None;
     let shifted = one.iter().zip(other).all(|pair| match pair {
         (None, None) => true,

@@ -171,6 +171,36 @@ int main(void)
                              &parts, times);
     print_parts(parts, kind, fault, value, times);
 
+    /* The same without a table: in halves of a second at cycle 1, then without
+     * a step, and over more cycles than there may be. */
+    kind = tramcheck_decide(n, horizon, present, strict, values, 64, 1, &fault,
+                            &value, &parts, times);
+    print_parts(parts, kind, fault, value, times);
+    kind = tramcheck_decide(n, horizon, present, strict, values, 64, 0, &fault,
+                            &value, &parts, times);
+    print_parts(parts, kind, fault, value, times);
+    printf("%d\n", kind == TRAMCHECK_UNDECIDED);
+    kind = tramcheck_decide(n, horizon, present, strict, values, 4097, 1,
+                            &fault, &value, &parts, times);
+    print_parts(parts, kind, fault, value, times);
+
+    /* From 0 to one second more than 4,096 cycles take: at none of them. Then a
+     * target that no time is in. */
+    memset(strict, 0, sizeof strict);
+    values[0] = 60;
+    values[TRAMCHECK_START + 1] = 0;
+    values[TRAMCHECK_TARGET] = -245761;
+    values[TRAMCHECK_TARGET + 1] = 245761;
+    kind = tramcheck_decide(n, horizon, present, strict, values, 4096, 4096,
+                            &fault, &value, &parts, times);
+    print_parts(parts, kind, fault, value, times);
+    printf("%d\n", kind == TRAMCHECK_CLEAR);
+    values[TRAMCHECK_TARGET + 1] = 245760;
+    kind = tramcheck_decide(n, horizon, present, strict, values, 4096, 0,
+                            &fault, &value, &parts, times);
+    print_parts(parts, kind, fault, value, times);
+    printf("%d\n", kind == TRAMCHECK_NEVER);
+
     /* Fifteen departures, each by itself and 60 seconds later in each cycle:
      * a run, and what both writers say. */
     n = TRAMCHECK_DEPARTURES;

@@ -1,16 +1,16 @@
 //! Random cases: the archive against both brute searches.
 
 use evidence::archive::{self, Answer, Run, RunInParts, Verdict};
-use evidence::case::{Case, Times, DEPARTURES};
-use evidence::checks::{named, named_unpacked, noisy, unmet_up_to, Lent};
-use evidence::enumeration::{first_in_box, image, in_parts, leads, tried_parts};
+use evidence::case::Case;
+use evidence::checks::{met_in_a_box, named, named_unpacked, noisy, unmet_up_to, Lent};
+use evidence::enumeration::{image, in_parts, leads};
 use evidence::faults;
 use evidence::random::wide::{strict_wide_trial, wide_trial};
 use evidence::random::{
     crowded_trial, dense_trial, sharper, strict_dense_trial, strict_trial, trial, Draw, Random,
     Trial,
 };
-use evidence::selections::{parts_of, search, Outcome};
+use evidence::selections::{search, Outcome};
 use std::thread;
 
 /// Cases of up to 7 departures without a strict bound, and with one; and as many
@@ -79,32 +79,6 @@ fn compare(seed: u64, random: &mut Random, case: &Case, capacity: usize, expecte
     }
 }
 
-/// The parts of a second in which starts are looked for: in all that are tried
-/// where a bound is strict, else in seconds and in (n + 1)ths.
-fn parts_looked_at(case: &Case) -> Vec<usize> {
-    match parts_of(case) {
-        1 => vec![1, case.n + 1],
-        _ => tried_parts(case.n).collect(),
-    }
-}
-
-/// How far a box goes, in parts of a second. With many departures only its centre
-/// is looked at.
-fn radius(n: usize, parts: usize) -> i64 {
-    let second = parts as i64;
-    let radii = match parts {
-        1 => [12, 4, 2, 1, 0],
-        _ => [6 * second, 2 * second, second / 2 + 1, 1, 1],
-    };
-    radii.get(n - 1).copied().unwrap_or(0)
-}
-
-/// The hidden start in other parts of a second, or the last ones before it.
-fn near_in(trial: &Trial, parts: usize) -> Times {
-    let own = trial.parts as i64;
-    trial.near.map(|time| (time * parts as i64).div_euclid(own))
-}
-
 /// Brute search 1: a reached verdict does what it says, and no start of a box
 /// around the clock's zero or around the hidden start contradicts a verdict, in
 /// whatever parts of a second.
@@ -115,14 +89,8 @@ fn enumerate(seed: u64, trial: &Trial, capacity: usize, answer: &Answer) {
         let scaled = in_parts(case, answer.parts);
         assert!(leads(&scaled, &answer.start, cycle), "{}", words());
     }
-    let limit = unmet_up_to(&answer.verdict);
-    for parts in parts_looked_at(case) {
-        let scaled = in_parts(case, parts);
-        for centre in [[0; DEPARTURES], near_in(trial, parts)] {
-            let met = first_in_box(&scaled, &centre, radius(case.n, parts), limit);
-            assert_eq!(met, None, "met too early in {parts} parts: {}", words());
-        }
-    }
+    let met = met_in_a_box(trial, unmet_up_to(&answer.verdict));
+    assert_eq!(met, None, "met too early: {}", words());
 }
 
 /// Compares with both brute searches and counts the outcome.

@@ -27,6 +27,8 @@ use Rattle.model.specs.Answers.{seconds, cycleNumber, Numbers, numbersOf, runIn
 use Rattle.model.specs.Writing.{packedAs, writeFault, told, outputAfter}
 use Rattle.model.specs.Converting.{converted, outputAfterConversion}
 use Rattle.model.specs.Changes.{timePlace, commit}
+use Rattle.decisions.specs.declared.Decided.{Decided}
+use Rattle.decisions.specs.Decide.{numbersOf as findingNumbers}
 
 -- a run as an answer: cycle k is reached, with the times of that cycle in parts; 0 parts where it is refused
 abbrev pub judgedRun : Judged → ℕ → ℕ → List Seconds → Answer
@@ -53,15 +55,26 @@ pub record Handed (v : Numbers) (returned first second : ℕ) : Type 0 where
   pub fault : first ≡ v .fault
   pub value : second ≡ v .value
 
--- an answer, and the times lent
-pub record Told (r : Answer) (returned first second : ℕ) (lent : List ℤ) : Type 0 where
-  pub numbers : Handed (numbersOf (r .verdict)) returned first second
-  pub times : lent ≡ plainTimes (r .start)
+-- with times, which are lent
+pub record HandedTimes (v : Numbers) (xs : List Seconds) (returned first second : ℕ) (lent : List ℤ) : Type 0 where
+  pub numbers : Handed v returned first second
+  pub times : lent ≡ plainTimes xs
 
--- with the parts that the times are in
-pub record ToldInParts (r : Answer) (returned first second third : ℕ) (lent : List ℤ) : Type 0 where
-  pub told : Told r returned first second lent
-  pub parts : third ≡ r .parts
+-- and with d, the parts of a second that the times are in
+pub record HandedInParts (v : Numbers) (d : ℕ) (xs : List Seconds) (returned first second third : ℕ) (lent : List ℤ) : Type 0 where
+  pub told : HandedTimes v xs returned first second lent
+  pub parts : third ≡ d
+
+-- an answer, without its parts and with them
+abbrev pub Told : Answer → ℕ → ℕ → ℕ → List ℤ → Type 0
+Told r = HandedTimes (numbersOf (r .verdict)) (r .start)
+
+abbrev pub ToldInParts : Answer → ℕ → ℕ → ℕ → ℕ → List ℤ → Type 0
+ToldInParts r = HandedInParts (numbersOf (r .verdict)) (r .parts) (r .start)
+
+-- an exact answer, likewise
+abbrev pub ToldExactly : Decided → ℕ → ℕ → ℕ → ℕ → List ℤ → Type 0
+ToldExactly r = HandedInParts (findingNumbers (r .finding)) (r .parts) (r .start)
 
 -- what a writer answers: 4 and the number of bytes, or a refusal
 abbrev pub writtenNumbers : Written → Numbers

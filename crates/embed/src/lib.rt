@@ -1,4 +1,5 @@
-// The library for C and Rust: verdicts, runs, packed cases written, read and converted, on numbers and lent arrays. No function asks anything of its caller.
+// The library for C and Rust: verdicts, exact answers, runs, packed cases written, read and converted, on numbers and lent arrays.
+// No function asks anything of its caller.
 // Names of functions with arrays end in the most departures, which decides how long the arrays are: the header gives them to the linker under plain names.
 ghost use mathlib.Core.Path.{_≡_};
 ghost use Prim.Native.Nat.{_+_, _≤_, _<_};
@@ -10,10 +11,12 @@ ghost use Rattle.model.specs.Packed.{parse};
 ghost use Rattle.model.specs.Forms.{old, wide};
 ghost use Rattle.model.specs.Answers.{answer, workspaceAfter, answerPacked, workspaceAfterPacked, unpacked, run};
 ghost use Rattle.model.specs.Changes.{preview, workspaceAfterPreview};
+ghost use Rattle.decisions.specs.Decide.{decided};
 ghost use Rattle.embed.specs.Numbers;
-ghost use Rattle.embed.specs.Numbers.{caseEntries, Handed, Told, ToldInParts, writtenNumbers, withCount, plainTimes, startTimes};
+ghost use Rattle.embed.specs.Numbers.{caseEntries, Handed, Told, ToldInParts, ToldExactly, writtenNumbers, withCount, plainTimes, startTimes};
 ghost use Rattle.embed.specs.Numbers.{runAnswer, runPartsAnswer, slotOf, slotAt, limitAt, caseIn, noMarks, entriesOf};
 ghost use Rattle.embed.specs.Numbers.{EntryPut, EntriesHanded, CaseHanded, WrittenHanded, ConvertedHanded, CommitHanded};
+use decisions::Decided;
 use ints::Cycle;
 use ints::Seconds;
 use ints::ZERO;
@@ -98,6 +101,25 @@ fn tell_in_parts(
 {
     *parts = answer.parts;
     tell(answer, fault, value, times)
+}
+
+// Hands an exact answer back.
+fn tell_exactly(
+    decided: Decided,
+    fault: &mut usize,
+    value: &mut usize,
+    parts: &mut usize,
+    times: &mut [i64; DEPARTURES],
+) -> u32
+    ensures { λ r. ⌜ ToldExactly decided r (now (fault .exit)) (now (value .exit)) (now (parts .exit)) (now (times .exit)) ⌝ }
+{
+    let finding = decided.finding;
+    let start = decided.start;
+    *fault = finding.fault();
+    *value = finding.value();
+    *parts = decided.parts;
+    *times = plain_times(start);
+    finding.kind()
 }
 
 // Hands back what a writer answers.
@@ -330,6 +352,30 @@ pub extern "C" fn tramcheck_verdict_unpacked_15(
     let case = case_in(n, horizon, present, strict, values);
     let answer = verdict::verdict(case, capacity, work);
     tell_in_parts(answer, fault, value, parts, start)
+}
+
+// The exact answer on an unpacked case: over so many cycles, whatever the case's own horizon is, and with so many steps.
+#[no_mangle]
+pub extern "C" fn tramcheck_decide_15(
+    n: usize,
+    horizon: usize,
+    present: &[u8; ENTRIES],
+    strict: &[u8; ENTRIES],
+    values: &[i64; ENTRIES],
+    cycles: usize,
+    steps: usize,
+    fault: &mut usize,
+    value: &mut usize,
+    parts: &mut usize,
+    start: &mut [i64; DEPARTURES],
+) -> u32
+    ensures { λ r. ⌜ ToldExactly
+        (decided (caseIn n horizon (now (present .entry)) (now (strict .entry)) (now (values .entry))) cycles steps)
+        r (now (fault .exit)) (now (value .exit)) (now (parts .exit)) (now (start .exit)) ⌝ }
+{
+    let case = case_in(n, horizon, present, strict, values);
+    let found = decide::decide(case, Cycle(cycles), steps);
+    tell_exactly(found, fault, value, parts, start)
 }
 
 // The times of a cycle of an unpacked case, from start times on.

@@ -3,7 +3,7 @@ use Prim.Native.Nat.{ℕ, suc, _+_, _-_, _≤_, _<_}
 use native.Mathlib.Omega.{arith}
 use native.Mathlib.Decide.{ℕ-discrete}
 use mathlib.Core.Path.{_≡_, refl}
-use mathlib.Core.Bool.{true, false}
+use mathlib.Core.Bool.{false}
 use mathlib.Core.List.{List, [], _∷_, _++_, map}
 use mathlib.Core.Option.{some}
 use lib.IntN.{ℤ}
@@ -21,7 +21,7 @@ use Rattle.model.proofs.Images.{long-more, more-at, row-imaged}
 use Rattle.model.proofs.Fitted.{fitting-front, fitting-rest}
 use Rattle.memory.specs.Numbers.{boundsIn, timesIn, Limit}
 use Rattle.zones.specs.Conditions.{RowReady}
-use Rattle.zones.proofs.Leaving.{closed-in}
+use Rattle.zones.proofs.Standing.{closed-in}
 use Rattle.lists.specs.Selecting.{withColumn, Selecting, Passed}
 
 -- ---- blank columns passed over
@@ -31,14 +31,6 @@ is-blank blank e = refl
 is-blank (secs v) e = impossible cc
 
 module _ {n : ℕ} {a : List Time} {i : ℕ} where
-  pub time-held : (s : ℕ) → isTime (time n a i s) ≡ true → 1 ≤ s → s ≤ n → Column n a i s
-  unfolding isTime
-  time-held s e l u = go (time n a i s) refl e
-    where
-      go : (t : Time) → time n a i s ≡ t → isTime t ≡ true → Column n a i s
-      go blank h e = impossible cc
-      go (secs v) h e = record { from-one = l; to-n = u; value = v; is = h }
-
   pub passed-none : {s : ℕ} → s ≤ suc n → Passed n a i s s
   passed-none h = record { from = omega arith; to = h; blank = λ t l u. absurd (omega arith) }
 

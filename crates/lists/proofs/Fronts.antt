@@ -11,9 +11,9 @@ use Rattle.model.specs.Sizes.{zoneSize}
 use Rattle.model.specs.Conditions.{Departures}
 use Rattle.memory.specs.Numbers.{boundsIn}
 use Rattle.memory.specs.Conditions.{ZoneIn}
-use Rattle.lists.specs.Lists.{numbersAt, zoneAt}
-use Rattle.lists.specs.Inner.{Elsewhere}
-use Rattle.lists.proofs.places.Zones.{length-numbers}
+use Rattle.memory.specs.Side.{numbersAt, Elsewhere}
+use Rattle.lists.specs.Lists.{zoneAt}
+use Rattle.memory.proofs.Side.{length-numbers}
 
 module _ (size : ℕ) (list : List ℤ) (inside : size ≤ length list) where
   pub front-long : length (take size list) ≡ size

@@ -16,12 +16,13 @@ use Rattle.model.specs.Matrix.{Matrix, sameMatrix}
 use Rattle.model.specs.Search.{keep}
 use Rattle.model.proofs.Entries.{length-tabulate}
 use Rattle.model.proofs.Kept.{Put, empty, there-already, new, keep-is}
-use Rattle.zones.specs.Conditions.{Left, gone, kept}
+use Rattle.memory.specs.Matrices.{Left, gone, kept}
 use Rattle.lists.specs.declared.Built.{Built}
-use Rattle.lists.specs.Lists.{numbersAt, zoneAt, listIn, ListRoom, ListHeld}
+use Rattle.lists.specs.Lists.{zoneAt, listIn, ListRoom, ListHeld}
 use Rattle.lists.specs.Met.{unmet}
 use Rattle.lists.specs.Inner.{PlacedAt}
-use Rattle.lists.proofs.places.Zones.{beyond-same, list-same, list-more}
+use Rattle.memory.proofs.Side.{beyond-same}
+use Rattle.lists.proofs.places.Zones.{list-same, list-more}
 
 length-listIn : (size count : ℕ) (work : List ℤ) → length (listIn size count work) ≡ count
 unfolding listIn
@@ -121,7 +122,7 @@ module _ {size capacity count : ℕ} {list : List ℤ} (room : ListRoom size cap
   unfolding behind
   held-beside o p same = rw (keep-behind zs o) (go (p .left))
     where
-      go : {u : Option Matrix} {r : Bool} {z : List ℤ} → Left u r z → ListHeld size capacity (behind zs u) (record { count = count; full = r }) list list
+      go : {u : Option Matrix} {r : Bool} {e : Matrix} → Left u r e → ListHeld size capacity (behind zs u) (record { count = count; full = r }) list list
       go gone = held-as-is
       go (kept {d} h) = record {
         beyond = refl;
@@ -143,7 +144,7 @@ module _ {size capacity count : ℕ} {list : List ℤ} (room : ListRoom size cap
       beyond : drop (capacity * size) after ≡ drop (capacity * size) list
       beyond = beyond-same (p .elsewhere) (capacity * size) (omega (arith, mul-le-mul-right size more, suc-mul count size))
 
-      go : {u : Option Matrix} {r : Bool} → Left u r (numbersAt size after count)
+      go : {u : Option Matrix} {r : Bool} → Left u r (zoneAt size after count)
           → ListHeld size capacity (behind zs u) (record { count = cond r (count + 1) count; full = false }) list after
       go gone = in-place count (room .inside) (length-listIn size count list) (list-same (p .elsewhere)) beyond
       go (kept {d} h) =

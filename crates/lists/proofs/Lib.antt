@@ -1,4 +1,4 @@
--- The laws that the functions' proofs share; a caller's proof cites Held and Lengths.
+-- The laws that the functions' proofs share; a caller's proof cites Held, Lengths and Patterned.
 pub mod Held
 pub mod Lengths
 pub mod Extensions
@@ -9,4 +9,5 @@ pub mod Going
 pub mod Fronts
 pub mod Starting
 pub mod Looking
+pub mod Patterned
 pub mod Pulling

@@ -17,8 +17,8 @@ use Rattle.model.proofs.Tabulated.{from, from-first, from-next, from-end}
 use Rattle.model.proofs.Size.{small-mono}
 use Rattle.model.proofs.Fitted.{fitting-left}
 use Rattle.memory.specs.Numbers.{boundsIn}
-use Rattle.zones.specs.Conditions.{Left}
-use Rattle.zones.proofs.Leaving.{left-none, left-some}
+use Rattle.memory.specs.Matrices.{Left}
+use Rattle.memory.proofs.Leaving.{left-none, left-some}
 use Rattle.starts.specs.Conditions.{StartReady}
 use Rattle.lists.specs.Lists.{zoneAt, listIn, Joins, Meeting}
 
@@ -56,7 +56,7 @@ module _ {n base count : ℕ} {work pattern : List ℤ} where
 
     -- what zone k has in common with it
     module _ (g : Looking n base count work pattern k) {d : Matrix} (is : d ≡ zoneAt (zoneSize n) (drop base work) k)
-        {b : Bool} {c : List ℤ} (left : Left (common n d (boundsIn pattern)) b c) where
+        {b : Bool} (c : List ℤ) (left : Left (common n d (boundsIn pattern)) b (boundsIn c)) where
       pub looking-on : b ≡ false → Looking n base count work pattern (k + 1)
       unfolding firstCommon
       looking-on none-left = record { rest = g .rest ∙ rw (from-next (zoneAt (zoneSize n) (drop base work)) count k inside, ← is, left-none left none-left) }

@@ -20,7 +20,7 @@ use Rattle.model.proofs.Tabulated.{from, from-first, from-next, from-end}
 use Rattle.memory.specs.Numbers.{boundsIn, timesIn}
 use Rattle.lists.specs.declared.Built.{Built}
 use Rattle.lists.specs.Lists.{zoneAt, listIn, ListRoom, ListHeld, Sources, Building}
-use Rattle.lists.proofs.places.Zones.{part-of}
+use Rattle.memory.proofs.Side.{part-of}
 use Rattle.lists.proofs.Held.{held-list, held-room, held-since, held-still, held-as-is}
 
 -- a part up to the end, lent and put back

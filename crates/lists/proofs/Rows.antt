@@ -13,8 +13,9 @@ use Rattle.model.specs.Sizes.{zoneSize}
 use Rattle.memory.specs.Numbers.{boundsIn}
 use Rattle.lists.specs.Lists.{setsMet, placesMet, zoneAt}
 use Rattle.lists.specs.Met.{freeAt, Counts, Tables, notedIn}
-use Rattle.lists.specs.Inner.{Elsewhere, parentIn, Underway, RowsFrom}
-use Rattle.lists.proofs.places.Zones.{part-of}
+use Rattle.memory.specs.Side.{Elsewhere}
+use Rattle.lists.specs.Inner.{parentIn, Underway, RowsFrom}
+use Rattle.memory.proofs.Side.{part-of}
 use Rattle.lists.proofs.met.Seen.{free-below}
 
 shorter : {X : Type 0} {m k : ℕ} (l l′ : List X) → m ≤ k → take k l′ ≡ take k l → take m l′ ≡ take m l

@@ -20,11 +20,12 @@ use Rattle.model.proofs.Preimage.{clock-imaged}
 use Rattle.memory.specs.Numbers.{boundsIn, timesIn}
 use Rattle.memory.specs.Conditions.{ZoneIn}
 use Rattle.zones.specs.Conditions.{CommonReady}
-use Rattle.zones.proofs.Leaving.{closed-in}
+use Rattle.zones.proofs.Standing.{closed-in}
 use Rattle.lists.specs.Lists.{seenSize, zoneAt, listIn, Sources, Joins, Meets}
 use Rattle.lists.specs.Selecting.{extensions, Selecting}
 use Rattle.lists.specs.Met.{freeAt, Tables, Noted}
-use Rattle.lists.specs.Inner.{Elsewhere, parentIn, Underway}
+use Rattle.memory.specs.Side.{Elsewhere}
+use Rattle.lists.specs.Inner.{parentIn, Underway}
 use Rattle.lists.proofs.places.Zones.{list-more}
 
 -- before row 1 only the clock's column is picked, and no set is noted: a 0 for each row

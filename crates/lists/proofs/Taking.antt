@@ -14,7 +14,7 @@ use Rattle.model.specs.Matrix.{Matrix}
 use Rattle.model.specs.Network.{Time}
 use Rattle.model.specs.Search.{keep}
 use Rattle.memory.specs.Numbers.{boundsIn, timesIn}
-use Rattle.zones.proofs.Leaving.{left-none, left-some}
+use Rattle.memory.proofs.Leaving.{left-none, left-some}
 use Rattle.lists.specs.declared.Built.{Built}
 use Rattle.lists.specs.Lists.{zoneAt, listIn}
 use Rattle.lists.specs.Selecting.{extensions, withColumn}

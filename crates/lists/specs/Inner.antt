@@ -5,7 +5,7 @@ use mathlib.Core.Bool.{Bool}
 use mathlib.Core.List.{List, [], _∷_, _++_}
 use mathlib.Core.Option.{Option}
 use lib.IntN.{ℤ}
-use lib.ListN.{length, take, drop}
+use lib.ListN.{length, take}
 use Rattle.model.specs.Sizes.{mostDepartures, zoneSize}
 use Rattle.model.specs.Matrix.{Matrix}
 use Rattle.model.specs.Network.{Time}
@@ -13,22 +13,18 @@ use Rattle.model.specs.Search.{keep}
 use Rattle.model.specs.Conditions.{Column}
 use Rattle.memory.specs.Numbers.{boundsIn, timesIn}
 use Rattle.memory.specs.Conditions.{ZoneIn}
-use Rattle.zones.specs.Conditions.{Left}
+use Rattle.memory.specs.Matrices.{Left}
 use Rattle.lists.specs.declared.Built.{Built}
-use Rattle.lists.specs.Lists.{seenSize, placesMet, numbersAt, zoneAt, listIn, ListRoom, ListHeld, Sources}
+use Rattle.memory.specs.Side.{Elsewhere}
+use Rattle.lists.specs.Lists.{seenSize, placesMet, zoneAt, listIn, ListRoom, ListHeld, Sources}
 use Rattle.lists.specs.Selecting.{extensions, withColumn, Selecting}
 use Rattle.lists.specs.Met.{freeAt, Tables, Noted}
 
 -- ---- a set built at place k of a list
--- only the numbers of place k may differ
-pub record Elsewhere (size k : ℕ) (before after : List ℤ) : Type 0 where
-  pub front : take (k * size) after ≡ take (k * size) before
-  pub back : drop (k * size + size) after ≡ drop (k * size + size) before
-
 -- the set o, by the answer. False: there is none, and what stands at the place is free
 pub record PlacedAt (size k : ℕ) (o : Option Matrix) (before : List ℤ) (r : Bool) (after : List ℤ) : Type 0 where
   pub elsewhere : Elsewhere size k before after
-  pub left : Left o r (numbersAt size after k)
+  pub left : Left o r (zoneAt size after k)
 
 -- ---- one column of row i
 -- what it adds to the set at place k of a list can be taken in

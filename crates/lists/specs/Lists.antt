@@ -3,23 +3,26 @@ use Prim.Native.Nat.{ℕ, suc, _+_, _*_, _≤_, _<_}
 use mathlib.Core.Path.{_≡_}
 use mathlib.Core.Logic.{_⊎_}
 use mathlib.Core.Bool.{true, false, cond}
-use mathlib.Core.List.{List, []}
+use mathlib.Core.List.{List, [], _∷_}
 use mathlib.Core.Option.{Option, none, some}
 use lib.IntN.{ℤ}
 use lib.Dec.{ltb}
 use lib.ListN.{length, take, drop}
-use Rattle.model.specs.Sizes.{fewDepartures, mostDepartures, zoneSize, workspaceSize}
+use Rattle.model.specs.Sizes.{fewDepartures, mostDepartures, mostNumbers, zoneSize, workspaceSize}
 use Rattle.model.specs.Lists.{tabulate, Every}
 use Rattle.model.specs.Bound.{Bound}
-use Rattle.model.specs.Matrix.{Matrix, tighten}
+use Rattle.model.specs.Matrix.{Matrix, everything, tighten}
 use Rattle.model.specs.Pattern.{patternConstraints}
 use Rattle.model.specs.Search.{keep, previous, firstCommon, wholes, startIn}
 use Rattle.model.specs.Answers.{allTimes}
 use Rattle.model.specs.Conditions.{Regular, Closed, Buildable, Meetable}
 use Rattle.memory.specs.Numbers.{boundsIn, timesIn, Limit}
+use Rattle.memory.specs.Side.{numbersAt}
 use Rattle.memory.specs.Conditions.{TableIn, PatternIn}
+use Rattle.starts.specs.Numbers as Starts
 use Rattle.lists.specs.declared.Built.{Built}
 use Rattle.lists.specs.declared.Found.{Found}
+use Rattle.lists.specs.declared.Whole.{Whole}
 
 -- ---- the table of the sets met
 -- the departures of a small and of a middling network, at most; any other is large
@@ -47,10 +50,7 @@ abbrev pub seenSize : ℕ → ℕ
 seenSize n = suc n * placesMet n * zoneSize n
 
 -- ---- lists
--- the numbers at place k, of size numbers each, and the zone there
-abbrev pub numbersAt : ℕ → List ℤ → ℕ → List ℤ
-numbersAt size work k = take size (drop (k * size) work)
-
+-- the zone at place k, of size numbers
 unfoldable pub zoneAt : ℕ → List ℤ → ℕ → Matrix
 zoneAt size work k = boundsIn (numbersAt size work k)
 
@@ -127,3 +127,22 @@ pub record Meeting (n parts base count : ℕ) (work pattern : List ℤ) : Type 0
 unfoldable pub foundBy : ℕ → ℕ → Option Matrix → Found
 foundBy n parts none = record { some = false; start = allTimes [] }
 foundBy n parts (some c) = record { some = true; start = allTimes (startIn n parts c) }
+
+-- ---- the zone of a pattern in whole parts
+-- it can be made, and if there are times in it there are some in so many parts
+pub record Wholable (n : ℕ) (pattern : List ℤ) (parts : ℕ) : Type 0 where
+  pub meets : Meets n pattern (everything (suc n) ∷ [])
+  pub few : parts ≤ suc mostDepartures
+  pub times : (z : Matrix) → tighten (suc n) (patternConstraints n (boundsIn pattern)) ≡ some z → (d : Matrix) × (wholes (suc n) parts z ≡ some d)
+
+-- the front of r is the zone, in whole parts
+pub record PatternWhole (n : ℕ) (pattern : List ℤ) (parts : ℕ) (r : List ℤ) : Type 0 where
+  pub zone : Matrix
+  pub is : tighten (suc n) (patternConstraints n (boundsIn pattern)) ≡ some zone
+  pub whole : wholes (suc n) parts zone ≡ some (Starts.boundsIn (take (zoneSize n) r))
+
+-- by the answer. False: there are no times in the pattern, and what stands in the array is free
+pub record WholeOf (n : ℕ) (pattern : List ℤ) (parts : ℕ) (r : Whole) : Type 0 where
+  pub none-left : r .some ≡ false → tighten (suc n) (patternConstraints n (boundsIn pattern)) ≡ none
+  pub some-left : r .some ≡ true → PatternWhole n pattern parts (r .zone)
+  pub long : length (r .zone) ≡ mostNumbers

@@ -10,7 +10,7 @@ ghost use Rattle.model.specs.Network.{time, isTime};
 ghost use Rattle.model.specs.Search.{keep, preimage, selections, firstCommon};
 ghost use Rattle.memory.specs.Numbers.{boundsIn, timesIn};
 ghost use Rattle.memory.specs.Conditions.{TimeCell};
-ghost use Rattle.lists.specs.Lists.{zoneAt, listIn, ListHeld, Building, NextList, Meets, FirstList, Meeting, foundBy};
+ghost use Rattle.lists.specs.Lists.{zoneAt, listIn, ListHeld, Building, NextList, Meets, FirstList, Meeting, foundBy, Wholable, WholeOf};
 ghost use Rattle.lists.specs.Selecting.{ColumnsFrom, NextColumn, extensions, withColumn};
 ghost use Rattle.lists.specs.Met.{freeAt, unmet};
 ghost use Rattle.lists.specs.Inner.{PlacedAt, AddReady, parentIn, ColumnReady, leftOf, columnSets};
@@ -50,6 +50,12 @@ pub struct Built {
 pub struct Found {
     pub some: bool,
     pub start: [Seconds; DEPARTURES],
+}
+
+// The zone of a pattern in whole parts of a second, at the front of an array of 64-bit numbers, if there are times in it.
+pub struct Whole {
+    pub some: bool,
+    pub zone: [i64; NUMBERS],
 }
 
 // Column s of row i holds a time.
@@ -407,5 +413,25 @@ pub fn first_common(
     Found {
         some: false,
         start: [ZERO; DEPARTURES],
+    }
+}
+
+// The zone of a pattern in whole parts.
+pub fn whole_pattern(pattern: &[i32], n: usize, parts: usize) -> Whole
+    requires { ⌜ Wholable n (now pattern) parts ⌝ }
+    ensures { λ r. ⌜ WholeOf n (now (pattern .entry)) parts r ⌝ }
+{
+    let size = zone_size(n);
+    let mut zone = [0i32; NUMBERS];
+    if first_list(&mut zone, pattern, n) == 0 {
+        return Whole {
+            some: false,
+            zone: [0i64; NUMBERS],
+        };
+    }
+    let wholes = starts::whole_zone(&zone[..size], n, parts);
+    Whole {
+        some: true,
+        zone: wholes,
     }
 }

@@ -7,7 +7,8 @@ ghost use Rattle.model.specs.Lists.{tabulate, anyOf};
 ghost use Rattle.model.specs.Bound.{sameZ};
 ghost use Rattle.model.specs.Matrix.{sameMatrix};
 ghost use Rattle.memory.specs.Numbers.{boundsIn};
-ghost use Rattle.lists.specs.Lists.{numbersAt, zoneAt};
+ghost use Rattle.memory.specs.Side.{numbersAt};
+ghost use Rattle.lists.specs.Lists.{zoneAt};
 
 // Two numbers in memory are equal.
 fn equal(a: i32, b: i32) -> bool

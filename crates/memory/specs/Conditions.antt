@@ -61,7 +61,10 @@ pub record ReadWithin (S : ℕ) (b : Bound) (r : Number) : Type 0 where
 abbrev pub BoundRead : Bound → Number → Type 0
 BoundRead b r = ReadWithin InMemory b r
 
-pub record TimeRead (t : Time) (r : Slot) : Type 0 where
+pub record TimeWithin (S : ℕ) (t : Time) (r : Slot) : Type 0 where
   pub is : timeOf r ≡ t
   pub value : r .value .0 ≡ secsOf t
-  pub small : natAbs (secsOf t) ≤ InMemory
+  pub small : natAbs (secsOf t) ≤ S
+
+abbrev pub TimeRead : Time → Slot → Type 0
+TimeRead t r = TimeWithin InMemory t r

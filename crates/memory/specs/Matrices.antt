@@ -3,7 +3,8 @@
 use Prim.Native.Nat.{ℕ, suc, _*_, _≤_, _<_}
 use mathlib.Core.Path.{_≡_}
 use mathlib.Core.List.{List, [], _∷_, foldl, map}
-use mathlib.Core.Option.{Option, some}
+use mathlib.Core.Option.{Option, none, some}
+use mathlib.Core.Bool.{Bool, true, false}
 use lib.IntN.{ℤ, natAbs}
 use Rattle.ints.specs.declared.Seconds.{Seconds}
 use Rattle.model.specs.Sizes.{mostTimesAtOnce}
@@ -39,6 +40,11 @@ pub record Relaxable (n L W : ℕ) (z : List ℤ) (d : Matrix) (i b : ℕ) (way 
 -- what they leave of d
 abbrev pub leaves : ℕ → Matrix → List Constraint → Option Matrix
 leaves n d ks = foldl (constrain (suc n)) (some d) ks
+
+-- the set o that is left, by the answer. False: no times are left, and e is free. True: e is that set
+pub data Left : Option Matrix → Bool → Matrix → Type 0 where
+  gone : {e : Matrix} → Left none false e
+  kept : {d e : Matrix} → e ≡ d → Left (some d) true e
 
 -- they leave something
 pub record SomeLeft (n : ℕ) (d : Matrix) (ks : List Constraint) : Type 0 where

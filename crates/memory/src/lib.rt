@@ -1,6 +1,6 @@
 // Numbers in memory: the bounds of zones and of patterns, and the times of the table.
 ghost use mathlib.Core.Path.{_≡_};
-ghost use mathlib.Core.Bool.{true};
+ghost use mathlib.Core.Bool.{true, _||_};
 ghost use mathlib.Core.List.{map};
 ghost use Prim.Native.Nat.{suc, _+_, _*_, _≤_, _<_};
 ghost use lib.IntN.{pos, _-ℤ_, natAbs};
@@ -299,6 +299,17 @@ pub fn only_differences(pattern: &[i32], n: usize) -> bool
         j += 1;
     }
     true
+}
+
+// Start or target bounds only differences.
+pub fn differences(start: &[i32], target: &[i32], n: usize) -> bool
+    requires { ⌜ PatternIn n (now start) × PatternIn n (now target) ⌝ }
+    ensures { λ r. ⌜ r ≡ (onlyDifferences n (boundsIn (now (start .entry))) || onlyDifferences n (boundsIn (now (target .entry)))) ⌝ }
+{
+    if only_differences(start, n) {
+        return true;
+    }
+    only_differences(target, n)
 }
 
 // The first count entries of the table of a case as numbers in memory; those beyond are free.

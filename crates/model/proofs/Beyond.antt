@@ -77,7 +77,7 @@ length-shift c xs = length-map xs (λ x. x +ℤ c)
 module _ (w : Network) (reg : Regular (w .n) (w .times)) (p q : ℕ) (c : ℤ)
     (e : power (w .n) (w .times) q ≡ added c (power (w .n) (w .times) p)) (before : p < q) (differences : Differences w) where
   -- a target met at the later, from whole times, is met at the earlier
-  earlier-whole : (r : ℕ) {xs : List ℤ} → Witness w (suc q + r) xs → (ys : List ℤ) × Witness w (suc p + r) ys
+  pub earlier-whole : (r : ℕ) {xs : List ℤ} → Witness w (suc q + r) xs → (ys : List ℤ) × Witness w (suc p + r) ys
   earlier-whole r {xs} s = ⊎-elim by-start by-target (or-true _ _ differences)
     where
       same : cycles (w .n) (w .times) (suc q + r) xs ≡ shift c (cycles (w .n) (w .times) (suc p + r) xs)

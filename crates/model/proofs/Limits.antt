@@ -1,5 +1,5 @@
 -- What a case without a fault keeps to. Each test of the definitions finds no fault exactly if all that it looks at is in its limits;
--- the limits of a call's network and of a run follow.
+-- the limits of a case's network and of a run follow.
 use Prim.Native.Nat.{ℕ, zero, suc, _+_, _*_, _-_, _≤_, _<_}
 use native.Mathlib.Omega.{arith}
 use native.Mathlib.Nat.{zero-mul}
@@ -265,19 +265,27 @@ form-case f c h =
     in-limit : {es : List Limit} → Every (BoundIn f) es → Every BoundInLimit es
     in-limit = every-map (λ e b. b .0)
 
+-- the network of a case without a fault is in the limits
+pub case-limits : (c : Case) → caseFault c ≡ none → Limits (network c)
+unfolding caseFault tableFault patternsFault outside network
+case-limits c h =
+    let facts = simp no-fault at h in
+    record {
+      table = table-of (omega arith) (facts .0 .1 .1);
+      some-cycles = omega arith;
+      few-cycles = omega arith;
+      start-small = bound-small (facts .1 .0) (c .n);
+      target-small = bound-small (facts .1 .1) (c .n);
+    }
+
 module _ (c : Case) (capacity size : ℕ) (h : callFault c capacity size ≡ none) where
-  -- the network of a call without a fault is in the limits
+  -- the case of a call without a fault has none, and its network is in the limits
+  pub case-of : caseFault c ≡ none
+  unfolding callFault
+  case-of = orElse-none _ _ .0 h .0
+
   pub limits-of : Limits (network c)
-  unfolding callFault caseFault tableFault patternsFault outside network
-  limits-of =
-      let facts = simp no-fault at h in
-      record {
-        table = table-of (omega arith) (facts .0 .0 .1 .1);
-        some-cycles = omega arith;
-        few-cycles = omega arith;
-        start-small = bound-small (facts .0 .1 .0) (c .n);
-        target-small = bound-small (facts .0 .1 .1) (c .n);
-      }
+  limits-of = case-limits c case-of
 
   -- Z is in its limits, and the workspace is long enough for it
   pub room-of : (1 ≤ capacity) × (capacity ≤ mostZones) × (workspaceSize capacity (c .n) ≤ size)

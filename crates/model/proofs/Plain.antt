@@ -78,13 +78,13 @@ pattern-plain n {b} p = every-flatten (every-tabulate (suc n) 0 _ (λ i l. every
     go i j true = unbounded
     go i j false = at-getD B.Bound.none unbounded p (pairPlace n i j)
 
-slack-plain : (c : ℤ) (t : Time) → Plain (slack c t)
+pub slack-plain : (c : ℤ) (t : Time) → Plain (slack c t)
 unfolding slack
 slack-plain c blank = unbounded
 slack-plain c (secs t) = at-most
 
 module _ (n : ℕ) (a : List Time) {d : Matrix} (p : Every Plain d) where
-  row-plain : (cols : List ℕ) (i s : ℕ) → PlainLimits (rowConstraints n a d cols i s)
+  pub row-plain : (cols : List ℕ) (i s : ℕ) → PlainLimits (rowConstraints n a d cols i s)
   unfolding keeps
   row-plain cols i s = of-row (λ k. Plain (k .limit)) n a d cols i s (record {
     attained = λ j h. slack-plain (chosen n a i s) (time n a i (1 + j));
@@ -109,7 +109,7 @@ not-strict (upto false b) e = at-most
 not-strict (upto true b) e = impossible cc
 
 module _ (w : Network) (none-strict : someStrict w ≡ false) where
-  patterns-plain : Every Plain (w .start) × Every Plain (w .target)
+  pub patterns-plain : Every Plain (w .start) × Every Plain (w .target)
   patterns-plain =
       let (start, target) = or-is-false (anyOf isStrict (w .start)) (anyOf isStrict (w .target)) .0 none-strict in
       (every-map not-strict (anyOf-false isStrict start), every-map not-strict (anyOf-false isStrict target))

@@ -21,7 +21,7 @@ use Rattle.model.proofs.Tabulated.{tabulate-snoc}
 use Rattle.model.proofs.Powers.{power-regular, powersFrom-is}
 
 -- the gap from a table that holds a time to the table with c added is c
-gap-added : (c : ℤ) (a : List Time) (i : ℕ) {v : ℤ} → getD a i blank ≡ secs v → gap a (added c a) ≡ c
+pub gap-added : (c : ℤ) (a : List Time) (i : ℕ) {v : ℤ} → getD a i blank ≡ secs v → gap a (added c a) ≡ c
 unfolding gap added after
 gap-added c [] i e = cc
 gap-added c (blank ∷ ts) zero e = cc

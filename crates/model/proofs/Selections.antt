@@ -3,7 +3,7 @@ use Prim.Native.Nat.{ℕ, zero, suc, _+_, _≤_, _<_}
 use native.Mathlib.Omega.{arith}
 use native.Mathlib.Decide.{ℕ-discrete}
 use mathlib.Core.Path.{_≡_, refl, sym, ap, _∙_}
-use mathlib.Core.Bool.{cond}
+use mathlib.Core.Bool.{true, cond}
 use mathlib.Core.List.{List, [], _∷_, map}
 use lib.ListN.{length, getD}
 use Rattle.ints.proofs.Integers.{impossible}
@@ -12,6 +12,16 @@ use Rattle.model.specs.Search.{columns, selections}
 use Rattle.model.specs.Conditions.{Column, Chosen, clock, column, Cols, Selection, no-row, choose}
 use Rattle.model.specs.Lists.{Every, done, both, Some, here, there}
 use Rattle.model.proofs.Listed.{every-map, map-every, flatMap-every, some-map, in-map, in-flatMap}
+
+-- a column that holds a time
+module _ {n : ℕ} {a : List Time} {i : ℕ} where
+  pub time-held : (s : ℕ) → isTime (time n a i s) ≡ true → 1 ≤ s → s ≤ n → Column n a i s
+  unfolding isTime
+  time-held s e l u = go (time n a i s) refl e
+    where
+      go : (t : Time) → time n a i s ≡ t → isTime t ≡ true → Column n a i s
+      go blank h e = impossible cc
+      go (secs v) h e = record { from-one = l; to-n = u; value = v; is = h }
 
 pub chosen-column : {n : ℕ} {a : List Time} {r s : ℕ} → Chosen n a (suc r) s → Column n a (suc r) s
 chosen-column (column c) = c

@@ -33,12 +33,12 @@ use Rattle.model.proofs.Plain.{all-plain, tighten-plain}
 use Rattle.model.proofs.Start.{Picked, pick-length, pick-member, pick-rule}
 
 -- ---- a bound, read without strictness
-whole-plain : (b : Bound) → Plain (whole b)
+pub whole-plain : (b : Bound) → Plain (whole b)
 unfolding whole
 whole-plain B.Bound.none = unbounded
 whole-plain (upto s b) = at-most
 
-holds-whole : (v : ℤ) (b : Bound) → Holds v (whole b) ↔ Holds v b
+pub holds-whole : (v : ℤ) (b : Bound) → Holds v (whole b) ↔ Holds v b
 unfolding whole
 holds-whole v B.Bound.none = (λ h. any, λ h. any)
 holds-whole v (upto s b) = (
@@ -118,7 +118,7 @@ module _ (m parts : ℕ) (z : Matrix) where
       same : (i j : ℕ) → Holds (x i -ℤ x j) (entry m (map whole (scaled parts z)) i j) ↔ Holds (x i -ℤ x j) (entry m (scaled parts z) i j)
       same i j = rw (read-entry m (scaled parts z) i j) (holds-whole (x i -ℤ x j) (entry m (scaled parts z) i j))
 
-  wholes-plain : (d : Matrix) → wholes m parts z ≡ some d → Every Plain d
+  pub wholes-plain : (d : Matrix) → wholes m parts z ≡ some d → Every Plain d
   unfolding wholes
   wholes-plain = tighten-plain m (bounds-plain m (map whole (scaled parts z)) (λ i j. rw (read-entry m (scaled parts z) i j) (whole-plain _)))
 

@@ -35,14 +35,14 @@ module _ (n : ℕ) (a : List Time) where
   image-cycle xs (suc i) h = sym (clocked-cycle n a xs (suc i) (omega arith) (omega arith))
 
   -- a sum that is a time is made of times
-  sum-time : (u v : ℤ) (t : Time) → after (secs u) t ≡ secs v → (w : ℤ) × (t ≡ secs w)
+  pub sum-time : (u v : ℤ) (t : Time) → after (secs u) t ≡ secs v → (w : ℤ) × (t ≡ secs w)
   unfolding after
   sum-time u v blank e = impossible cc
   sum-time u v (secs w) e = (w, refl)
 
   module _ (reg : Regular n a) where
     -- in a regular table some column of each row attains the largest sum
-    attaining : (x : ℕ → ℤ) (i : ℕ) → 1 ≤ i → i ≤ n → (s : ℕ) × Column n a i s × Attains n a x i s
+    pub attaining : (x : ℕ → ℤ) (i : ℕ) → 1 ≤ i → i ≤ n → (s : ℕ) × Column n a i s × Attains n a x i s
     attaining x i l u =
         let sums : ℕ → Time = λ j. after (secs (x j)) (time n a i j) in
         let top : latest (tabulate n 1 sums) ≡ secs (next n a x i) = next-is n a reg x i l u in

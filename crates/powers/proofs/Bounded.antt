@@ -5,13 +5,13 @@ use mathlib.Core.Path.{_≡_}
 use mathlib.Core.List.{List}
 use lib.IntN.{natAbs}
 use lib.ListN.{getD}
-use Rattle.model.specs.Sizes.{mostCycles, timeLimit}
+use Rattle.model.specs.Sizes.{timeLimit}
 use Rattle.model.specs.Network.{Time, blank, time, after, secsOf, product, power}
 use Rattle.model.specs.Conditions.{TimesSmall}
 use Rattle.model.proofs.Listed.{every-map, at-getD, every-tabulate, every-flatten}
 use Rattle.model.proofs.Sums.{after-small, latest-small, entries-small}
 use Rattle.memory.specs.Numbers.{noneIn}
-use Rattle.powers.specs.Readings.{AtMost, powerLimit}
+use Rattle.powers.specs.Readings.{AtMost, mostPowers, powerLimit}
 
 -- an entry of such a table
 entry-small : {limit : ℕ} {a : List Time} → AtMost limit a → (k : ℕ) → natAbs (secsOf (getD a k blank)) ≤ limit
@@ -32,7 +32,7 @@ power-small n a p (suc r) =
     rw e at (product-small n p (power-small n a p r))
 
 -- the powers of a table of small times
-pub powers-small : (n : ℕ) (a : List Time) → TimesSmall n a → (r : ℕ) → r < mostCycles → AtMost powerLimit (power n a r)
+pub powers-small : (n : ℕ) (a : List Time) → TimesSmall n a → (r : ℕ) → r < mostPowers → AtMost powerLimit (power n a r)
 powers-small n a small r h = every-map (λ t l. omega arith) (power-small n a (entries-small n a small) r)
 
 -- the sum of an entry of each

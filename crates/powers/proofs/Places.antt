@@ -1,7 +1,7 @@
 -- Tables side by side: a part that lies within the first numbers, and a table that is put behind another, entry by entry.
 use Prim.Native.Nat.{ℕ, _+_, _*_, _-_, _≤_, _<_}
 use native.Mathlib.Omega.{arith}
-use native.Mathlib.Nat.{lt-of-mul-lt-mul-right}
+use native.Mathlib.Nat.{zero-mul, one-mul, lt-of-mul-lt-mul-right}
 use mathlib.Core.Path.{_≡_, refl, sym, ap, _∙_}
 use mathlib.Core.List.{List, map, map-id}
 use lib.IntN.{ℤ}
@@ -20,6 +20,13 @@ lent-at n r powers = let e : r * tableSize n + tableSize n - r * tableSize n ≡
 
 pub length-at : (n r : ℕ) (powers : List ℤ) → r * tableSize n + tableSize n ≤ length powers → length (numbersAt n powers r) ≡ tableSize n
 length-at n r powers h = length-take-le (tableSize n) (drop (r * tableSize n) powers) (omega (arith, length-drop (r * tableSize n) powers))
+
+-- places 0 and 1
+pub at-front : (n : ℕ) (powers : List ℤ) → numbersAt n powers 0 ≡ take (tableSize n) powers
+at-front n powers = rw (zero-mul (tableSize n))
+
+pub at-next : (n : ℕ) (powers : List ℤ) → numbersAt n powers 1 ≡ take (tableSize n) (drop (tableSize n) powers)
+at-next n powers = rw (one-mul (tableSize n))
 
 part-is : {X : Type 0} (at size : ℕ) (xs : List X) → at ≤ length xs → take size (drop at xs) ≡ drop at (take (at + size) xs)
 part-is at size xs h = sym (ap (drop at) (take-add at size xs) ∙ drop-at (take at xs) (take size (drop at xs)) at (length-take-le at xs h))

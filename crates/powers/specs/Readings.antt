@@ -46,9 +46,13 @@ pub record PlaceIn (n r : ℕ) (powers : List ℤ) : Type 0 where
 abbrev pub AtMost : ℕ → List Time → Type 0
 AtMost limit a = Every (λ t. natAbs (secsOf t) ≤ limit) a
 
--- the most that a time of a power is in size
+-- the most powers of a table that are made one after the other
+abbrev pub mostPowers : ℕ
+mostPowers = 4096
+
+-- the most that a time of such a power is in size
 abbrev pub powerLimit : ℕ
-powerLimit = mostCycles * timeLimit
+powerLimit = mostPowers * timeLimit
 
 -- tables of n departures whose product can be made
 pub record Factors (n : ℕ) (first second : List ℤ) : Type 0 where
@@ -72,6 +76,13 @@ pub record Makeable (n r : ℕ) (times powers : List ℤ) : Type 0 where
 pub record Made (n r : ℕ) (times before after : List ℤ) : Type 0 where
   pub is : tableAt n after (r + 1) ≡ product n (timesIn times) (tableAt n before r)
   pub front : take ((r + 1) * tableSize n) after ≡ take ((r + 1) * tableSize n) before
+
+-- the product with the table at the front can be put in its place: there is room for one more behind it
+pub record Advancing (n : ℕ) (times tables : List ℤ) : Type 0 where
+  pub table : TableIn n times
+  pub room : 2 * tableSize n ≤ length tables
+  pub table-small : AtMost powerLimit (timesIn times)
+  pub front-small : AtMost powerLimit (timesIn (take (tableSize n) tables))
 
 -- ---- the search
 -- a table whose powers can be searched; with room for all of them

@@ -1,16 +1,16 @@
-// The first repeated power of a table in memory. The powers stand side by side in one flat array of numbers, made by a repeat expression: power r + 1 at
-// place r, that is, from number r * (n * n) on.
+// The powers of a table in memory: one made from the one before it, and the first repeated one. For that the powers stand side by side in one flat array of
+// numbers, made by a repeat expression: power r + 1 at place r, that is, from number r * (n * n) on.
 ghost use mathlib.Core.Path.{_≡_};
 ghost use mathlib.Core.Bool.{_&&_};
 ghost use Prim.Native.Nat.{_+_, _*_, _≤_, _<_};
 ghost use lib.IntN.{_-ℤ_, natAbs};
-ghost use lib.ListN.{length, take, getD};
-ghost use Rattle.model.specs.Sizes.{fewDepartures};
+ghost use lib.ListN.{length, take, drop, getD};
+ghost use Rattle.model.specs.Sizes.{fewDepartures, tableSize};
 ghost use Rattle.model.specs.Lists.{sameLists};
 ghost use Rattle.model.specs.Network;
 ghost use Rattle.model.specs.Network.{blank, secs, isTime, secsOf, after, later, added, sameTime};
 ghost use Rattle.memory.specs.Numbers.{noneIn, timeIn, timesIn};
-ghost use Rattle.powers.specs.Readings.{repeatRead, repeatIn, repeatsAt, PlaceIn, EntryOf, Makeable, Made, TableReady, Searchable};
+ghost use Rattle.powers.specs.Readings.{repeatRead, repeatIn, repeatsAt, PlaceIn, EntryOf, Makeable, Made, Advancing, TableReady, Searchable};
 use ints::Seconds;
 use ints::ZERO;
 use memory::NONE;
@@ -100,6 +100,29 @@ fn product(times: &[i32], powers: &mut [i32], n: usize, r: usize)
     }
 }
 
+// The table of size numbers at place 1, put at place 0 too.
+fn to_front(tables: &mut [i32], size: usize)
+    requires { ⌜ size + size ≤ length (now tables) ⌝ }
+    ensures { λ r. ⌜ timesIn (take size (now (tables .exit))) ≡ timesIn (take size (drop size (now (tables .entry)))) ⌝ }
+{
+    for k in 0..size {
+        let e = tables[size + k];
+        tables[k] = e;
+    }
+}
+
+// The product of the table and of that at the front of tables, put at the front in its place. What lies behind it is free.
+pub fn advance(times: &[i32], tables: &mut [i32], n: usize)
+    requires { ⌜ Advancing n (now times) (now tables) ⌝ }
+    ensures { λ r. ⌜
+        timesIn (take (tableSize n) (now (tables .exit)))
+        ≡ Network.product n (timesIn (now (times .entry))) (timesIn (take (tableSize n) (now (tables .entry))))
+        ⌝ }
+{
+    product(times, tables, n, 0);
+    to_front(tables, n * n);
+}
+
 // What is added to the first table: the gap of the first place that holds a time in both.
 fn gap(first: &[i32], second: &[i32]) -> Seconds
     requires { ⌜ length (now first) ≡ length (now second) ⌝ }
@@ -143,6 +166,20 @@ fn all_moved(first: &[i32], second: &[i32], c: Seconds) -> bool
     true
 }
 
+// The second table is the first with one number added.
+pub fn alike(first: &[i32], second: &[i32]) -> bool
+    requires { ⌜ length (now first) ≡ length (now second) ⌝ }
+    ensures { λ r. ⌜
+        r
+        ≡ sameLists sameTime
+        (added (Network.gap (timesIn (now (first .entry))) (timesIn (now (second .entry)))) (timesIn (now (first .entry))))
+        (timesIn (now (second .entry)))
+        ⌝ }
+{
+    let number = gap(first, second);
+    all_moved(first, second, number)
+}
+
 // The first of the powers before that at place r which it repeats.
 fn repeats(powers: &[i32], n: usize, r: usize) -> Repeated
     requires { ⌜ PlaceIn n r (now powers) ⌝ }
@@ -154,8 +191,8 @@ fn repeats(powers: &[i32], n: usize, r: usize) -> Repeated
     for p in 0..r {
         let from = p * size;
         let earlier = &powers[from..from + size];
-        let number = gap(earlier, last);
-        if all_moved(earlier, last, number) {
+        if alike(earlier, last) {
+            let number = gap(earlier, last);
             return Repeated::At(Again {
                 q: r + 1,
                 p: p + 1,
@@ -166,14 +203,14 @@ fn repeats(powers: &[i32], n: usize, r: usize) -> Repeated
     Repeated::None
 }
 
-// The table, at place 0.
-fn put_first(powers: &mut [i32], times: &[i32])
-    requires { ⌜ length (now times) ≤ length (now powers) ⌝ }
-    ensures { λ r. ⌜ timesIn (take (length (now (times .entry))) (now (powers .exit))) ≡ timesIn (now (times .entry)) ⌝ }
+// The table, put at the front of tables. What lies behind it is free.
+pub fn put_front(tables: &mut [i32], times: &[i32])
+    requires { ⌜ length (now times) ≤ length (now tables) ⌝ }
+    ensures { λ r. ⌜ timesIn (take (length (now (times .entry))) (now (tables .exit))) ≡ timesIn (now (times .entry)) ⌝ }
 {
     for k in 0..times.len() {
         let e = times[k];
-        powers[k] = e;
+        tables[k] = e;
     }
 }
 
@@ -182,7 +219,7 @@ fn search(times: &[i32], powers: &mut [i32], n: usize) -> Repeated
     requires { ⌜ Searchable n (now times) (now powers) ⌝ }
     ensures { λ r. ⌜ repeatRead r ≡ repeatIn n (now (times .entry)) ⌝ }
 {
-    put_first(powers, times);
+    put_front(powers, times);
     for r in 0..CYCLES - 1 {
         product(times, powers, n, r);
         if let Repeated::At(again) = repeats(powers, n, r + 1) {

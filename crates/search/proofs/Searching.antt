@@ -12,22 +12,23 @@ use lib.ListN.{length, drop}
 use borrow.Author.Tests.{lt-ltb, le-ltb}
 use Rattle.ints.proofs.Integers.{impossible}
 use Rattle.model.specs.Sizes.{mostCycles, zoneSize}
-use Rattle.model.specs.Lists.{tabulate, done, both}
+use Rattle.model.specs.Lists.{tabulate}
 use Rattle.model.specs.Matrix.{Matrix, everything}
 use Rattle.model.specs.Network.{Network}
 use Rattle.model.specs.Search.{Outcome, reached, never, tableFull, partsOf, startIn, lists, previous}
 use Rattle.model.specs.Search.{firstCommon, settled, dry, searchBy, searchFrom}
 use Rattle.model.specs.Answers.{answered}
 use Rattle.model.proofs.Listed.{every-both}
-use Rattle.model.proofs.Closed.{everything-closed}
 use Rattle.model.proofs.ZoneLists.{lists-closed}
 use Rattle.model.proofs.Wholes.{W}
 use Rattle.model.proofs.Searched.{parts-few, first-common, parts-enough}
+use Rattle.memory.specs.Networks.{networkIn}
 use Rattle.memory.specs.Numbers.{boundsIn, timesIn}
-use Rattle.memory.proofs.Room.{target-meetable, buildable, meetable}
+use Rattle.memory.proofs.Room.{buildable, meetable}
 use Rattle.lists.specs.Lists.{seenSize, listIn, Meets, Startable}
+use Rattle.lists.proofs.Patterned.{pattern-meets}
 use Rattle.search.specs.declared.Step.{Step}
-use Rattle.search.specs.Searching.{networkIn, Searchable, Stepping, Stepped, full, met, on}
+use Rattle.search.specs.Searching.{Searchable, Stepping, Stepped, full, met, on}
 
 -- how list k ends the search
 module _ (w : Network) (capacity k : ℕ) (zs : List Matrix) where
@@ -82,13 +83,7 @@ module _ {n parts capacity cycles size : ℕ} {times start target : List ℤ} (q
 
   -- list 0
   pub target-meets : Meets n target (everything (suc n) ∷ [])
-  target-meets = record {
-    limits = q .target-in;
-    each = both (record {
-      closed = everything-closed (suc n);
-      meetable = target-meetable n (boundsIn target) (q .limits .table .departures .few) (q .limits .target-small);
-    }) done;
-  }
+  target-meets = pattern-meets (q .target-in) (q .limits .target-small)
 
   pub zone-room : zoneSize n ≤ size
   zone-room = omega (arith, q .long, mul-le-mul-right (zoneSize n) (q .some-zones))

@@ -14,22 +14,13 @@ use Rattle.model.specs.Network.{Network}
 use Rattle.model.specs.Search.{Outcome, previous, firstCommon, partsOf, startIn, reached, clear, never, tableFull, lists, searchFrom}
 use Rattle.model.specs.Answers.{answered}
 use Rattle.model.specs.Conditions.{Limits}
-use Rattle.memory.specs.Numbers.{boundsIn, timesIn}
+use Rattle.memory.specs.Numbers.{timesIn}
+use Rattle.memory.specs.Networks.{networkIn}
 use Rattle.memory.specs.Conditions.{TableIn, PatternIn}
 use Rattle.lists.specs.Lists.{listIn, Building, Meets, Startable}
 use Rattle.search.specs.declared.End.{End}
 use Rattle.search.specs.declared.End.the-variants as end
 use Rattle.search.specs.declared.Step.{Step}
-
--- the network that stands in memory
-abbrev pub networkIn : ℕ → ℕ → List ℤ → List ℤ → List ℤ → Network
-networkIn n horizon times start target = record {
-  n = n;
-  horizon = horizon;
-  times = timesIn times;
-  start = boundsIn start;
-  target = boundsIn target;
-}
 
 -- a network in memory within the limits, the parts of its starts, cycles within its horizon, and room for the lists
 pub record Searchable (n parts capacity cycles size : ℕ) (times start target : List ℤ) : Type 0 where

@@ -1,4 +1,4 @@
--- All times can take in the bounds that leave some, and what is left is the zone that the start is picked in.
+-- All times can take in the bounds that leave some, and what is left is the zone in whole parts, in which the start is picked.
 use Prim.Native.Nat.{ℕ, suc, _+_, _*_, _≤_}
 use native.Mathlib.Omega.{arith}
 use native.Mathlib.Nat.{mul-le-mul, mul-le-mul-left}
@@ -23,7 +23,7 @@ use Rattle.memory.specs.Numbers.{InMemory}
 use Rattle.memory.specs.Conditions.{ZoneIn}
 use Rattle.memory.specs.Matrices.{leaves}
 use Rattle.starts.specs.Numbers.{boundsIn, Stored}
-use Rattle.starts.specs.Conditions.{AllReady, BoundsReady, startOf, StartReady}
+use Rattle.starts.specs.Conditions.{AllReady, BoundsReady, StartReady}
 
 pub all-ready : {n : ℕ} {bounds : List ℤ} (z : List ℤ) → BoundsReady n bounds → boundsIn z ≡ everything (suc n) → AllReady n z bounds
 all-ready {n} {bounds} z r e = record {
@@ -36,10 +36,6 @@ all-ready {n} {bounds} z r e = record {
   times = rw e (r .times);
   source = r .source;
 }
-
-pub start-is : (n : ℕ) (d e : Matrix) → leaves n (everything (suc n)) (boundsOf (suc n) d) ≡ some e → pick n e ≡ startOf n d
-unfolding startOf tighten
-start-is n d e h = rw (startOf, h)
 
 -- ---- a zone in parts
 -- a number of the zone, in whole parts
@@ -84,6 +80,11 @@ module _ {n : ℕ} {zone : List ℤ} {parts : ℕ} (r : StartReady n zone parts)
     fitting = rw e (made-fitting room (made-everything n most-size) (bounds-fit (suc n) _) (bounds-small (suc n) _ inParts-small));
   }
 
-  pub start-in : startOf n (boundsIn bounds) ≡ startIn n parts z
-  unfolding startOf startIn wholes
-  start-in = rw e
+  -- and what they leave is the zone in whole parts
+  pub wholes-are : {d : Matrix} → leaves n (everything (suc n)) (boundsOf (suc n) (boundsIn bounds)) ≡ some d → wholes (suc n) parts z ≡ some d
+  unfolding wholes tighten
+  wholes-are h = rw e at h
+
+pub start-in : (n parts : ℕ) (z d : Matrix) → wholes (suc n) parts z ≡ some d → pick n d ≡ startIn n parts z
+unfolding startIn
+start-in n parts z d h = rw (startIn, h)

@@ -1,4 +1,4 @@
-// The start that is picked in a zone, in parts of a second: its bounds in whole parts, over numbers of 64 bits, are taken in to the zone of all times.
+// Sets of times over numbers of 64 bits: one more constraint in place, a zone in whole parts of a second, the start that is picked.
 ghost use mathlib.Core.Path.{_≡_};
 ghost use mathlib.Core.Option.{some};
 ghost use Prim.Native.Nat.{suc, _+_, _*_, _≤_, _<_};
@@ -15,7 +15,8 @@ ghost use Rattle.memory.specs.Numbers as Memory;
 ghost use Rattle.memory.specs.Conditions.{ZoneIn, ZoneCell, ReadWithin};
 ghost use Rattle.memory.specs.Matrices.{across, RowFilled, limited, leaves, values, NextFrom, NextOf};
 ghost use Rattle.starts.specs.Numbers.{odd, boundIn, boundsIn, Largest, Stored};
-ghost use Rattle.starts.specs.Conditions.{RelaxReady, ConstrainReady, boundRow, RowReady, AllReady, BoundsReady, Tightened, startOf, PartsOf, StartReady};
+ghost use Rattle.starts.specs.Conditions.{RelaxReady, TakingOne, ConstrainReady, Taken, boundRow, RowReady, AllReady, Tightened, PartsOf, StartReady};
+ghost use Rattle.starts.specs.Conditions.{WholesOf};
 use ints::Seconds;
 use ints::ZERO;
 use memory::Halves;
@@ -54,7 +55,7 @@ fn number_of(bound: Number) -> i64
 }
 
 // The bound of a zone on x(i) - x(j).
-fn bound_at(zone: &[i64], n: usize, i: usize, j: usize) -> Number
+pub fn bound_at(zone: &[i64], n: usize, i: usize, j: usize) -> Number
     requires { ⌜ ZoneCell n (now zone) i j ⌝ }
     ensures { λ r. ⌜ ReadWithin Largest (entry (suc n) (boundsIn (now (zone .entry))) i j) r ⌝ }
 {
@@ -72,16 +73,13 @@ fn put(zone: &mut [i64], n: usize, i: usize, j: usize, b: Number)
     zone[k] = number_of(b);
 }
 
-// Row i takes in what follows by way of row b; way bounds x(i) - x(b), and where it is blank nothing follows.
-fn relax_row(zone: &mut [i64], n: usize, i: usize, b: usize, way: Number)
+// Row i takes in what follows by way of row b, place by place; way bounds x(i) - x(b).
+fn relax_entries(zone: &mut [i64], n: usize, i: usize, b: usize, way: Number)
     requires { ⌜ RelaxReady n (now zone) i b (asBound way) ⌝ }
     ensures { λ r. ⌜
         RowFilled n (boundsIn (now (zone .entry))) (boundsIn (now (zone .exit))) (across n (boundsIn (now (zone .entry))) i b (asBound way)) i (suc n)
         ⌝ }
 {
-    if let Number::Blank = way {
-        return;
-    }
     let mut j = 0;
     while j <= n {
         let old = bound_at(zone, n, i, j);
@@ -90,6 +88,22 @@ fn relax_row(zone: &mut [i64], n: usize, i: usize, b: usize, way: Number)
         put(zone, n, i, j, new);
         j += 1;
     }
+}
+
+// The same. Where way is blank, or the zone bounds x(i) - x(b) by it already, nothing follows, and the row is passed over.
+fn relax_row(zone: &mut [i64], n: usize, i: usize, b: usize, way: Number)
+    requires { ⌜ RelaxReady n (now zone) i b (asBound way) ⌝ }
+    ensures { λ r. ⌜
+        RowFilled n (boundsIn (now (zone .entry))) (boundsIn (now (zone .exit))) (across n (boundsIn (now (zone .entry))) i b (asBound way)) i (suc n)
+        ⌝ }
+{
+    let Number::Upto(c) = way else {
+        return;
+    };
+    if bound_at(zone, n, i, b).implies(c) {
+        return;
+    }
+    relax_entries(zone, n, i, b, way)
 }
 
 // One more constraint, in place: x(a) - x(b) is within limit. Some times are left, so row b is not changed by the loop.
@@ -103,6 +117,25 @@ fn constrain(zone: &mut [i64], n: usize, a: usize, b: usize, limit: Number)
         relax_row(zone, n, i, b, way);
         i += 1;
     }
+}
+
+// The same, where perhaps no times are left: then false, and what stands in zone is free. What the zone implies already changes nothing.
+pub fn take_in(zone: &mut [i64], n: usize, a: usize, b: usize, limit: Number) -> bool
+    requires { ⌜ TakingOne n (now zone) a b (asBound limit) ⌝ }
+    ensures { λ r. ⌜ Taken n (now (zone .entry)) (limited a b (asBound limit)) r (now (zone .exit)) ⌝ }
+{
+    let Number::Upto(c) = limit else {
+        return true;
+    };
+    if bound_at(zone, n, a, b).implies(c) {
+        return true;
+    }
+    let around = bound_at(zone, n, b, a).plus(limit);
+    if around.negative() {
+        return false;
+    }
+    constrain(zone, n, a, b, limit);
+    true
 }
 
 // Takes in what the bounds say of x(i) - x(j), for each j.
@@ -232,7 +265,7 @@ fn next_time(zone: &[i64], n: usize, times: [Seconds; DEPARTURES], t: usize) -> 
 }
 
 // The start picked in the zone: each departure in turn, given those before it.
-fn pick(zone: &[i64], n: usize) -> [Seconds; DEPARTURES]
+pub fn pick(zone: &[i64], n: usize) -> [Seconds; DEPARTURES]
     requires { ⌜ Departures n × ZoneIn n (now zone) ⌝ }
     ensures { λ r. ⌜ r ≡ allTimes (pick n (boundsIn (now (zone .entry)))) ⌝ }
 {
@@ -244,16 +277,6 @@ fn pick(zone: &[i64], n: usize) -> [Seconds; DEPARTURES]
         t += 1;
     }
     times
-}
-
-// The start that the bounds leave.
-fn picked(bounds: &[i64], n: usize) -> [Seconds; DEPARTURES]
-    requires { ⌜ BoundsReady n (now bounds) ⌝ }
-    ensures { λ r. ⌜ r ≡ allTimes (startOf n (boundsIn (now (bounds .entry)))) ⌝ }
-{
-    let size = zone_size(n);
-    let zone = tightened(all_times(n), bounds, n);
-    pick(&zone[..size], n)
 }
 
 // What a bound allows in whole parts: "less than b" is at most b * parts - 1.
@@ -289,12 +312,22 @@ fn in_parts(zone: &[i32], parts: usize) -> [i64; NUMBERS]
     bounds
 }
 
+// The zone in whole parts, with its tightest bounds, at the front of an array.
+pub fn whole_zone(zone: &[i32], n: usize, parts: usize) -> [i64; NUMBERS]
+    requires { ⌜ StartReady n (now zone) parts ⌝ }
+    ensures { λ r. ⌜ WholesOf n (now (zone .entry)) parts r ⌝ }
+{
+    let size = zone_size(n);
+    let bounds = in_parts(zone, parts);
+    tightened(all_times(n), &bounds[..size], n)
+}
+
 // The start picked in the zone, in parts.
 pub fn start(zone: &[i32], n: usize, parts: usize) -> [Seconds; DEPARTURES]
     requires { ⌜ StartReady n (now zone) parts ⌝ }
     ensures { λ r. ⌜ r ≡ allTimes (startIn n parts (Memory.boundsIn (now (zone .entry)))) ⌝ }
 {
     let size = zone_size(n);
-    let bounds = in_parts(zone, parts);
-    picked(&bounds[..size], n)
+    let wholes = whole_zone(zone, n, parts);
+    pick(&wholes[..size], n)
 }

@@ -3,81 +3,40 @@ use Prim.Native.Nat.{ℕ, _≤_}
 use native.Mathlib.Omega.{arith}
 use mathlib.Core.Path.{_≡_, refl, ap, _∙_}
 use mathlib.Core.Bool.{Bool, _||_}
-use mathlib.Core.List.{List, map}
+use mathlib.Core.List.{List}
 use mathlib.Core.Option.{some}
 use lib.IntN.{ℤ}
-use lib.ListN.{length, take}
-use lib.Seq.{length-take-le}
+use lib.ListN.{take}
 use Rattle.model.specs.declared.Case.{Case}
 use Rattle.model.specs.declared.Answer.{Answer}
-use Rattle.model.specs.declared.Limit.{Limit}
-use Rattle.model.specs.Sizes.{boundLimit, tableSize, patternSize, mostBounds}
+use Rattle.model.specs.Sizes.{tableSize, patternSize}
 use Rattle.model.specs.Pattern.{onlyDifferences}
 use Rattle.model.specs.Network.{Network, Repeat, repeatOf}
 use Rattle.model.specs.Search as S
 use Rattle.model.specs.Search.{plan, planWith, lists, outcome}
 use Rattle.model.specs.Answers.{answered}
-use Rattle.model.specs.Faults.{network, callFault, caseFault, tableFault, patternsFault, tableOf, boundOf, stated}
+use Rattle.model.specs.Faults.{network}
 use Rattle.model.specs.Demands.{InLimits}
-use Rattle.model.specs.Lists.{Every}
-use Rattle.model.specs.Conditions.{Departures, InLimit}
-use Rattle.model.proofs.Listed.{every-map}
-use Rattle.model.proofs.Limits.{wider-limit, no-fault, rows-in, limits-of, room-of}
-use Rattle.model.proofs.Places.{table-fits, pattern-fits}
+use Rattle.model.specs.Conditions.{Departures}
+use Rattle.model.proofs.Limits.{case-of, limits-of, room-of}
 use Rattle.model.proofs.Repeats.{repeat-sound}
 use Rattle.model.proofs.Searched as Q
 use Rattle.model.proofs.Searched.{plan-is}
-use Rattle.memory.specs.Numbers.{boundsIn, timesIn}
-use Rattle.memory.specs.Conditions.{TableIn, PatternIn}
+use Rattle.memory.specs.Numbers.{boundsIn}
+use Rattle.memory.proofs.Cased.{CaseIn, in-table, in-pattern, departures}
 use Rattle.judge.specs.Judgement.{startParts}
 use Rattle.judge.proofs.Laws.{parts-are}
 use Rattle.powers.specs.declared.Repeated.{Repeated}
 use Rattle.powers.specs.Readings.{repeatRead, repeatIn, TableReady}
-use Rattle.search.specs.Searching.{networkIn, Searchable, Searched}
+use Rattle.memory.specs.Networks.{networkIn}
+use Rattle.search.specs.Searching.{Searchable, Searched}
 use Rattle.verdict.specs.declared.Plan.{Plan}
 use Rattle.verdict.specs.Planning.{Planned}
 use Rattle.verdict.proofs.Plans.{same-search}
 
--- a pattern in memory
-abbrev PatternOf : ℕ → List Limit → List ℤ → Type 0
-PatternOf n limits numbers = (boundsIn (take (patternSize n) numbers) ≡ map boundOf (take (patternSize n) limits)) × (length numbers ≡ mostBounds)
-
--- a case in memory
-pub record CaseIn (c : Case) (times start target : List ℤ) : Type 0 where
-  pub times-in : (timesIn (take (tableSize (c .n)) times) ≡ tableOf (c .n) (c .times)) × (length times ≡ mostBounds)
-  pub start-in : PatternOf (c .n) (c .start) start
-  pub target-in : PatternOf (c .n) (c .target) target
-
--- the table and a pattern in the first numbers of an array
-module _ {n : ℕ} (d : Departures n) (numbers : List ℤ) (long : length numbers ≡ mostBounds) where
-  pub table-room : {count : ℕ} → count ≡ tableSize n → count ≤ length numbers
-  table-room e = omega (arith, table-fits d)
-
-  pub pattern-room : {size : ℕ} → size ≡ patternSize n → size ≤ length numbers
-  pattern-room e = omega (arith, pattern-fits d)
-
-  in-table : TableIn n (take (tableSize n) numbers)
-  in-table = record { departures = d; size = length-take-le _ numbers (table-room refl) }
-
-  pub in-pattern : {size : ℕ} → size ≡ patternSize n → PatternIn n (take size numbers)
-  in-pattern e = rw e (record { departures = d; size = length-take-le _ numbers (pattern-room refl) })
-
 module _ (c : Case) (capacity size : ℕ) (h : InLimits c capacity size) where
-  pub departures : Departures (c .n)
-  unfolding network
-  departures = limits-of c capacity size h .table .departures
-
-  pub times-in-limit : Every (InLimit boundLimit) (take (tableSize (c .n)) (c .times))
-  unfolding callFault caseFault tableFault
-  times-in-limit = let facts = simp no-fault at h in every-map (wider-limit (omega arith)) (rows-in (facts .0 .0 .1 .1))
-
-  pub start-in-limit : Every (λ e. InLimit boundLimit (stated e)) (take (patternSize (c .n)) (c .start))
-  unfolding callFault caseFault patternsFault
-  start-in-limit = let facts = simp no-fault at h in facts .0 .1 .0
-
-  pub target-in-limit : Every (λ e. InLimit boundLimit (stated e)) (take (patternSize (c .n)) (c .target))
-  unfolding callFault caseFault patternsFault
-  target-in-limit = let facts = simp no-fault at h in facts .0 .1 .1
+  few : Departures (c .n)
+  few = departures c (case-of c capacity size h)
 
   pub counted : (again : Repeat) → repeatOf (network c) ≡ some again → 1 ≤ again .q
   counted again e = let r = repeat-sound (network c) e in omega (arith, r .q-is)
@@ -100,11 +59,11 @@ module _ (c : Case) (capacity size : ℕ) (h : InLimits c capacity size) where
         record {
           horizon = c .horizon .0;
           limits = rw (e .times-in .0, e .start-in .0, e .target-in .0) (limits-of c capacity size h);
-          in-parts = rw (e .times-in .0, e .start-in .0, e .target-in .0) (p ∙ parts-are c departures);
+          in-parts = rw (e .times-in .0, e .start-in .0, e .target-in .0) (p ∙ parts-are c few);
           within = k;
-          table = in-table departures times (e .times-in .1);
-          start-in = in-pattern departures start (e .start-in .1) refl;
-          target-in = in-pattern departures target (e .target-in .1) refl;
+          table = in-table few times (e .times-in .1);
+          start-in = in-pattern few start (e .start-in .1) refl;
+          target-in = in-pattern few target (e .target-in .1) refl;
           some-zones = some-zones;
           long = long;
         }
@@ -112,7 +71,7 @@ module _ (c : Case) (capacity size : ℕ) (h : InLimits c capacity size) where
     -- so can its powers, and what is found in them is the definition's first repeated power
     pub powers-ready : TableReady (c .n) table
     unfolding network
-    powers-ready = record { table = in-table departures times (e .times-in .1); limits = rw (e .times-in .0) (limits-of c capacity size h .table) }
+    powers-ready = record { table = in-table few times (e .times-in .1); limits = rw (e .times-in .0) (limits-of c capacity size h .table) }
 
     pub repeat-is : repeatIn (c .n) table ≡ repeatOf (network c)
     unfolding repeatOf network

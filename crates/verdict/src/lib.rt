@@ -1,17 +1,13 @@
 // Verdicts: a case is judged, then searched, and the workspace is left all zero.
 ghost use mathlib.Core.Path.{_≡_};
-ghost use mathlib.Core.Bool.{_||_};
 ghost use Prim.Native.Nat.{_≤_, _<_};
 ghost use lib.ListN.{length, replicate};
 ghost use lib.IntN.{pos};
 ghost use Rattle.model.specs.Sizes.{mostCycles};
-ghost use Rattle.model.specs.Pattern.{onlyDifferences};
 ghost use Rattle.model.specs.Search.{planWith, outcome};
 ghost use Rattle.model.specs.Faults.{network};
 ghost use Rattle.model.specs.Answers.{answered};
 ghost use Rattle.model.specs.Demands.{InLimits, Given, PackedGiven};
-ghost use Rattle.memory.specs.Numbers.{boundsIn};
-ghost use Rattle.memory.specs.Conditions.{PatternIn};
 ghost use Rattle.powers.specs.Readings.{repeatRead};
 ghost use Rattle.verdict.specs.Planning.{Planned, Counted};
 use ints::Cycle;
@@ -49,17 +45,6 @@ fn plan_of(repeated: Repeated, differences: bool, horizon: Cycle) -> Plan
     }
 }
 
-// Start or target bounds only differences.
-fn differences(start: &[i32], target: &[i32], n: usize) -> bool
-    requires { ⌜ PatternIn n (now start) × PatternIn n (now target) ⌝ }
-    ensures { λ r. ⌜ r ≡ (onlyDifferences n (boundsIn (now (start .entry))) || onlyDifferences n (boundsIn (now (target .entry)))) ⌝ }
-{
-    if memory::only_differences(start, n) {
-        return true;
-    }
-    memory::only_differences(target, n)
-}
-
 // Sets every number to 0.
 fn clear(work: &mut [i32])
     ensures { λ r. ⌜ now (work .exit) ≡ replicate (length (now (work .entry))) (pos 0) ⌝ }
@@ -88,7 +73,7 @@ fn searched(case: Case, capacity: usize, work: &mut [i32]) -> Answer
     let times = &times[..count];
     let start = &start[..size];
     let target = &target[..size];
-    let free = differences(start, target, n);
+    let free = memory::differences(start, target, n);
     let repeated = powers::first_repeat(times, n);
     let plan = plan_of(repeated, free, case.horizon);
     let cycles = plan.cycles;

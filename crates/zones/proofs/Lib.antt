@@ -1,3 +1,3 @@
--- The laws that the functions' proofs share; a caller's proof cites Leaving.
-pub mod Leaving
+-- The laws that the functions' proofs share; a caller's proof cites Standing.
+pub mod Standing
 pub mod Columns

@@ -1,33 +1,26 @@
 -- What the public functions require and ensure.
 use Prim.Native.Nat.{ℕ, suc, _*_, _≤_}
-use mathlib.Core.Path.{_≡_}
 use mathlib.Core.List.{List}
-use mathlib.Core.Option.{Option, none, some}
-use mathlib.Core.Bool.{Bool, true, false}
+use mathlib.Core.Option.{some}
+use mathlib.Core.Bool.{Bool}
 use lib.IntN.{ℤ}
 use lib.ListN.{length}
 use Rattle.model.specs.Bound.{Bound}
-use Rattle.model.specs.Matrix.{Matrix, Constraint}
+use Rattle.model.specs.Matrix.{Constraint}
 use Rattle.model.specs.Search.{rowConstraints}
 use Rattle.model.specs.Conditions.{Column, Cols, Closed, Fitting, Meetable}
 use Rattle.memory.specs.Numbers.{boundsIn, timesIn, Limit, InMemory}
 use Rattle.memory.specs.Conditions.{ZoneIn, TableIn, PatternIn}
-use Rattle.memory.specs.Matrices.{leaves, TakesOne}
+use Rattle.memory.specs.Matrices.{leaves, Left, TakesOne}
 
 -- a zone with its tightest bounds
 pub record ClosedIn (n : ℕ) (z : List ℤ) : Type 0 where
   pub zone : ZoneIn n z
   pub closed : Closed (suc n) (boundsIn z)
 
--- what is left of a zone, by the answer. False: no times are left, and what stands in z is free; its length is unchanged.
--- True: z is the zone that is left
-pub data Left : Option Matrix → Bool → List ℤ → Type 0 where
-  gone : {z : List ℤ} → Left none false z
-  kept : {d : Matrix} {z : List ℤ} → boundsIn z ≡ d → Left (some d) true z
-
 -- r and z′ are what the constraints ks leave of z
 abbrev pub Taken : ℕ → List ℤ → List Constraint → Bool → List ℤ → Type 0
-Taken n z ks r z′ = Left (leaves n (boundsIn z) ks) r z′
+Taken n z ks r z′ = Left (leaves n (boundsIn z) ks) r (boundsIn z′)
 
 -- the most that a limit is in size: a bound and two times, each a number in memory
 abbrev pub LimitMost : ℕ

@@ -21,9 +21,9 @@ use memory::put;
 use memory::time_at;
 
 // The column of a row in a selection.
-struct Choice {
-    row: usize,
-    column: usize,
+pub struct Choice {
+    pub row: usize,
+    pub column: usize,
 }
 
 // Row i takes in what follows by way of row b, place by place; way bounds x(i) - x(b).

@@ -7,7 +7,7 @@ use lib.ListN.{length}
 use Rattle.model.specs.Sizes.{zoneSize}
 use Rattle.memory.specs.Numbers.{boundsIn}
 use Rattle.lists.specs.Lists.{zoneAt}
-use Rattle.lists.proofs.places.Zones.{length-numbers, lent-at, back-else, back-at}
+use Rattle.memory.proofs.Side.{length-numbers, lent-at, back-else, back-at}
 use Rattle.lists.proofs.Columns.{row-ready}
 use Rattle.lists.proofs.add_at.Statement.{statement}
 use Rattle.lists.proofs.add_at.Tie as tie

@@ -7,7 +7,7 @@ use lib.ListN.{length}
 use Rattle.model.specs.Sizes.{zoneSize}
 use Rattle.lists.specs.Lists.{zoneAt, listIn}
 use Rattle.lists.specs.Met.{freeAt}
-use Rattle.lists.proofs.places.Zones.{length-numbers, lent-at}
+use Rattle.memory.proofs.Side.{length-numbers, lent-at}
 use Rattle.lists.proofs.met.Seen.{placed-none, placed-some}
 use Rattle.lists.proofs.met.Growing.{here-fits}
 use Rattle.lists.proofs.beside.Statement.{statement}

@@ -9,7 +9,7 @@ use Rattle.model.specs.Search.{common}
 use Rattle.model.specs.Conditions.{Departures}
 use Rattle.memory.specs.Numbers.{boundsIn}
 use Rattle.memory.proofs.Places.{zone-fits}
-use Rattle.zones.specs.Conditions.{Left}
+use Rattle.memory.specs.Matrices.{Left}
 use Rattle.lists.specs.Lists.{zoneAt, foundBy}
 use Rattle.lists.proofs.Fronts.{front-long, front-room, front-is, source-long, loaded-is}
 use Rattle.lists.proofs.Starting.{common-ready}
@@ -99,7 +99,7 @@ common-requires c κs =
 left : (c : tie.After-common Inv-loop μ-loop) →
     let s = c .before .before .before in
     let a = s .before .before .before .before .before .before .args in
-    Left (common (a .n) (boundsIn (s .store .last .0)) (boundsIn (a .pattern .now))) (c .common .result) (c .common .last .0)
+    Left (common (a .n) (boundsIn (s .store .last .0)) (boundsIn (a .pattern .now))) (c .common .result) (boundsIn (c .common .last .0))
 unfolding common
 left c = rw (again (c .before .before .before)) at (c .common .ensures)
 
@@ -122,7 +122,7 @@ start-requires c κs =
     let z = i .before .before in
     let long = e .common .kept .0 ∙ front-long _ _ (room s) ∙ z .zone-size .ensures in
     rw (front-is _ _ (room s) (e .common .last .0) (e .common .kept .0))
-    (found-ready (i .loop-test .taken) (i .before .loop .inv .0) (loaded s) (left e) (z .before .pre) long (t .if1 .taken))
+    (found-ready (i .loop-test .taken) (i .before .loop .inv .0) (loaded s) _ (left e) (z .before .pre) long (t .if1 .taken))
 
 returns : tie.Need-returns Inv-loop μ-loop
 unfolding foundBy
@@ -132,7 +132,7 @@ returns c =
     let s = e .before .before .before in
     let i = s .before .before .before in
     rw (
-      looking-found (i .loop-test .taken) (i .before .loop .inv .0) (loaded s) (left e) (t .if1 .taken),
+      looking-found (i .loop-test .taken) (i .before .loop .inv .0) (loaded s) _ (left e) (t .if1 .taken),
       c .start .ensures,
       front-is _ _ (room s) (e .common .last .0) (e .common .kept .0),
     )
@@ -142,7 +142,7 @@ loop-again c =
     let e = c .before .before in
     let s = e .before .before .before in
     let i = s .before .before .before in
-    (looking-on (i .loop-test .taken) (i .before .loop .inv .0) (loaded s) (left e) (c .if1 .left), room-left e)
+    (looking-on (i .loop-test .taken) (i .before .loop .inv .0) (loaded s) _ (left e) (c .if1 .left), room-left e)
 
 returns-2 : tie.Need-returns-2 Inv-loop μ-loop
 unfolding foundBy

@@ -12,10 +12,10 @@ use Rattle.model.specs.Matrix.{everything, constrain, tighten}
 use Rattle.model.specs.Pattern.{patternConstraints}
 use Rattle.model.proofs.Listed.{of-both}
 use Rattle.memory.specs.Numbers.{boundsIn}
-use Rattle.zones.specs.Conditions.{Left}
-use Rattle.zones.proofs.Leaving.{left-none, left-some}
-use Rattle.lists.specs.Inner.{Elsewhere}
-use Rattle.lists.proofs.places.Zones.{beyond-same, else-trans}
+use Rattle.memory.specs.Matrices.{Left}
+use Rattle.memory.proofs.Leaving.{left-none, left-some}
+use Rattle.memory.specs.Side.{Elsewhere}
+use Rattle.memory.proofs.Side.{beyond-same, else-trans}
 use Rattle.lists.proofs.Fronts.{front-long, front-zone, front-is, front-at, front-else}
 use Rattle.lists.proofs.Starting.{common-ready, target-none, target-some}
 use Rattle.lists.proofs.first_list.Statement.{statement}
@@ -67,7 +67,7 @@ common-requires c κs =
 target-left : (c : tie.After-common) →
     let a = c .before .before .before .before .before .before .args in
     Left (foldl (constrain (suc (a .n))) (some (everything (suc (a .n)))) (patternConstraints (a .n) (boundsIn (a .pattern .now))))
-    (c .common .result) (c .common .last .0)
+    (c .common .result) (boundsIn (c .common .last .0))
 target-left c = let e = c .before .before .before in rw (again e, e .everything .ensures) at (c .common .ensures)
 
 -- only the first zone's numbers differ

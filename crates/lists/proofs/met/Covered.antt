@@ -28,7 +28,7 @@ use Rattle.memory.specs.Numbers.{boundsIn, timesIn}
 use Rattle.lists.specs.Lists.{setsMet, placesMet, zoneAt}
 use Rattle.lists.specs.Selecting.{extensions}
 use Rattle.lists.specs.Met.{freeAt, metIn, Counts, unmet, notedIn, Old, Covered, Noted}
-use Rattle.lists.specs.Inner.{Elsewhere}
+use Rattle.memory.specs.Side.{Elsewhere}
 use Rattle.lists.proofs.places.Zones.{other-same}
 use Rattle.lists.proofs.Extensions.{extensions-none}
 use Rattle.lists.proofs.met.Seen.{unmet-none, free-other}

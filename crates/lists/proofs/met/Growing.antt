@@ -9,10 +9,12 @@ use lib.Seq.{paste}
 use Rattle.model.specs.Sizes.{zoneSize}
 use Rattle.model.specs.Conditions.{Departures, Column}
 use Rattle.memory.specs.Numbers.{timesIn}
-use Rattle.lists.specs.Lists.{numbersAt, zoneAt}
+use Rattle.memory.specs.Side.{numbersAt, Elsewhere}
+use Rattle.lists.specs.Lists.{zoneAt}
 use Rattle.lists.specs.Met.{freeAt}
-use Rattle.lists.specs.Inner.{Elsewhere, AddReady, parentIn, Underway}
-use Rattle.lists.proofs.places.Zones.{length-numbers, stored-else, stored-at}
+use Rattle.lists.specs.Inner.{AddReady, parentIn, Underway}
+use Rattle.memory.proofs.Side.{length-numbers, stored-else}
+use Rattle.lists.proofs.places.Zones.{stored-at}
 use Rattle.lists.proofs.met.Seen.{free-fits, free-later}
 
 module _ {n : ℕ} {times zone seen : List ℤ} {counts cols : List ℕ} {i : ℕ} (u : Underway n times zone seen counts cols i) where

@@ -15,13 +15,13 @@ use Rattle.model.specs.Sizes.{zoneSize}
 use Rattle.model.specs.Lists.{anyOf}
 use Rattle.model.specs.Matrix.{Matrix, sameMatrix}
 use Rattle.model.proofs.Tabulated.{tabulate-ext}
-use Rattle.memory.specs.Numbers.{boundsIn}
 use Rattle.memory.proofs.Places.{in-rows}
 use Rattle.memory.proofs.Fills.{same-row}
-use Rattle.zones.specs.Conditions.{Left, gone, kept}
+use Rattle.memory.specs.Matrices.{Left, gone, kept}
 use Rattle.lists.specs.Lists.{placesMet, zoneAt}
 use Rattle.lists.specs.Met.{freeAt, metIn, Counts, Tables, unmet}
-use Rattle.lists.specs.Inner.{Elsewhere, PlacedAt}
+use Rattle.memory.specs.Side.{Elsewhere}
+use Rattle.lists.specs.Inner.{PlacedAt}
 use Rattle.lists.proofs.places.Zones.{other-same}
 
 -- ---- a set that was not met
@@ -46,20 +46,20 @@ unmet-none zs (some y) e = go (anyOf (sameMatrix y) zs) refl e
 
 -- by the answer whether a set is left, and whether it is among zs
 module _ (zs : List Matrix) where
-  unmet-left : {o : Option Matrix} {b : Bool} {z : List ℤ} → Left o b z → b ≡ true
-      → (t : Bool) → t ≡ anyOf (sameMatrix (boundsIn z)) zs → Left (unmet zs o) (not t) z
+  unmet-left : {o : Option Matrix} {b : Bool} {e : Matrix} → Left o b e → b ≡ true
+      → (t : Bool) → t ≡ anyOf (sameMatrix e) zs → Left (unmet zs o) (not t) e
   unfolding unmet
-  unmet-left gone e t m = impossible cc
-  unmet-left (kept {d} {z} h) e t m = go t (ap (λ (y : Matrix). anyOf (sameMatrix y) zs) (sym h) ∙ sym m)
+  unmet-left gone f t m = impossible cc
+  unmet-left (kept {d} {e} h) f t m = go t (ap (λ (y : Matrix). anyOf (sameMatrix y) zs) (sym h) ∙ sym m)
     where
-      go : (t : Bool) → anyOf (sameMatrix d) zs ≡ t → Left (unmet zs (some d)) (not t) z
+      go : (t : Bool) → anyOf (sameMatrix d) zs ≡ t → Left (unmet zs (some d)) (not t) e
       go true m = rw (m, unmet) gone
       go false m = rw (m, unmet) (kept h)
 
-  unmet-gone : {o : Option Matrix} {b : Bool} {z : List ℤ} → Left o b z → b ≡ false → Left (unmet zs o) false z
+  unmet-gone : {o : Option Matrix} {b : Bool} {e : Matrix} → Left o b e → b ≡ false → Left (unmet zs o) false e
   unfolding unmet
-  unmet-gone gone e = gone
-  unmet-gone (kept h) e = impossible cc
+  unmet-gone gone f = gone
+  unmet-gone (kept h) f = impossible cc
 
   module _ {size k : ℕ} {o : Option Matrix} {before : List ℤ} {r : Bool} {after : List ℤ} (p : PlacedAt size k o before r after) where
     pub placed-none : not r ≡ true → PlacedAt size k (unmet zs o) before false after

@@ -4,7 +4,8 @@ use Prim.Native.Nat.{suc, _-_}
 use mathlib.Core.Path.{sym, _∙_}
 use Rattle.memory.specs.Numbers.{timesIn}
 use Rattle.lists.specs.Selecting.{Passed}
-use Rattle.lists.proofs.Columns.{time-held, passed-none, passed-more}
+use Rattle.model.proofs.Selections.{time-held}
+use Rattle.lists.proofs.Columns.{passed-none, passed-more}
 use Rattle.lists.proofs.next_column.Statement.{statement}
 use Rattle.lists.proofs.next_column.Tie as tie
 

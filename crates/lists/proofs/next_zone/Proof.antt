@@ -6,10 +6,12 @@ use Prim.Native.Nat.{_+_, _*_, _-_, _≤_}
 use lib.ListN.{length}
 use lib.Seq.{paste}
 use Rattle.model.specs.Sizes.{zoneSize}
-use Rattle.lists.specs.Lists.{numbersAt, listIn}
+use Rattle.memory.specs.Side.{numbersAt}
+use Rattle.lists.specs.Lists.{listIn}
 use Rattle.lists.specs.Met.{freeAt}
 use Rattle.lists.specs.Inner.{PlacedAt, leftOf}
-use Rattle.lists.proofs.places.Zones.{length-numbers, lent-at, list-same, else-trans}
+use Rattle.memory.proofs.Side.{length-numbers, lent-at, else-trans}
+use Rattle.lists.proofs.places.Zones.{list-same}
 use Rattle.lists.proofs.met.Seen.{placed-none, placed-some}
 use Rattle.lists.proofs.met.Growing.{parent-fits, copied-else, copied-at, add-ready}
 use Rattle.lists.proofs.next_zone.Statement.{statement}

@@ -1,20 +1,18 @@
 -- Zones at places of a list: when two are the same, and what changes where one place does.
-use Prim.Native.Nat.{ℕ, zero, suc, _+_, _*_, _-_, _≤_, _<_}
+use Prim.Native.Nat.{ℕ, zero, suc, _+_, _*_, _≤_, _<_}
 use native.Mathlib.Omega.{arith}
 use native.Mathlib.Decide.{decLt, ℕ-discrete}
 use native.Mathlib.Nat.{mul-le-mul-right, suc-mul}
-use native.Mathlib.Numerals.{add-one}
 use mathlib.Core.Path.{_≡_, refl, sym, ap, ap₂, _∙_}
 use mathlib.Core.Bool.{Bool, true, false, cond, _||_}
-use mathlib.Core.List.{List, [], _∷_, _++_, append-assoc}
+use mathlib.Core.List.{List, [], _∷_, _++_}
 use lib.IntN.{ℤ, pos}
-use lib.ListN.{length, take, drop, getD, set, length-take, length-drop, length-set, List·getD-append}
-use lib.Seq.{getD-take, getD-drop, drop-drop, take-all, take-take, take-at, drop-at, length-take-le, ext-getD}
-use lib.Seq.{paste, paste-zero, paste-suc, drop-paste, length-paste-head}
+use lib.ListN.{length, take, drop, getD}
+use lib.Seq.{getD-take, getD-drop, ext-getD}
+use lib.Seq.{paste}
 use lib.Dec.{eqb}
 use borrow.Author.Tests.{eqb-true, eq-eqb}
-use borrow.Rule.Slice.PartMut.{putMid, take-put, drop-put}
-use mir.Syntax.{Width, w32}
+use mir.Syntax.{Width}
 use mir.Val.{SFits, toZ, ofZ}
 use mir.ValLaws.{toZ-ofZ}
 use Rattle.ints.proofs.Integers.{impossible}
@@ -27,8 +25,9 @@ use Rattle.model.proofs.Same.{sameZ-true, sameZ-refl, sameMatrix-true, sameMatr
 use Rattle.memory.specs.Numbers.{noneIn, ofHalves, boundIn, boundsIn}
 use Rattle.memory.proofs.InHalves.{same-number, not-none}
 use Rattle.memory.proofs.Places.{getD-bounds}
-use Rattle.lists.specs.Lists.{numbersAt, zoneAt, listIn}
-use Rattle.lists.specs.Inner.{Elsewhere}
+use Rattle.memory.specs.Side.{numbersAt, Elsewhere}
+use Rattle.memory.proofs.Side.{length-numbers, part-of, beyond-same, stored-numbers}
+use Rattle.lists.specs.Lists.{zoneAt, listIn}
 
 -- ---- equal numbers
 same-test : (s t : Bool) → (s ≡ true → t ≡ true) → (t ≡ true → s ≡ true) → s ≡ t
@@ -53,9 +52,6 @@ boundIn-injective a b e = go (sameZ a (pos noneIn)) (sameZ b (pos noneIn)) refl 
     go true false p q e = absurd (not-none b (sym e))
     go false true p q e = absurd (not-none a e)
     go false false p q e = same-number a b e
-
-pub length-numbers : (size : ℕ) (list : List ℤ) (k : ℕ) → k * size + size ≤ length list → length (numbersAt size list k) ≡ size
-length-numbers size list k inside = rw (length-take size (drop (k * size) list), length-drop (k * size) list) (omega arith)
 
 -- ---- the first p numbers of a zone against those at place k
 abbrev pub SameUpto : ℕ → List ℤ → ℕ → List ℤ → ℕ → Type 0
@@ -108,21 +104,8 @@ any-found t f (suc m) first k l h e = elim (ℕ-discrete k first) [
   | no other ↦ rw (any-found t f m (suc first) k (omega arith) (omega arith) e) (elim (t (f first)) as (λ b. (b || true) ≡ true) [ true ↦ refl | false ↦ refl ])
 ]
 
--- a part lies within the first numbers
-pub part-of : {X : Type 0} (t j s : ℕ) (l : List X) → j + s ≤ t → take s (drop j (take t l)) ≡ take s (drop j l)
-part-of t zero s l h = take-take s t l (omega arith)
-part-of zero (suc j) s l h = absurd (omega arith)
-part-of (suc t) (suc j) s [] h = refl
-part-of (suc t) (suc j) s (x ∷ l) h = part-of t j s l (omega arith)
-
 -- ---- where only the numbers of place k differ
 module _ {size k : ℕ} {before after : List ℤ} (e : Elsewhere size k before after) where
-  pub beyond-same : (m : ℕ) → k * size + size ≤ m → drop m after ≡ drop m before
-  beyond-same m h =
-      let r = m - (k * size + size) in
-      let is : k * size + size + r ≡ m = omega arith in
-      rw is at (sym (drop-drop r (k * size + size) after) ∙ ap (drop r) (e .back) ∙ drop-drop r (k * size + size) before)
-
   -- all other zones are as they were
   pub other-same : (j : ℕ) → (j ≡ k → ⊥) → zoneAt size after j ≡ zoneAt size before j
   unfolding zoneAt
@@ -135,7 +118,7 @@ module _ {size k : ℕ} {before after : List ℤ} (e : Elsewhere size k before a
           ∙ ap (λ (l : List ℤ). take size (drop (j * size) l)) (e .front) ∙ part-of (k * size) (j * size) size before inside
       go (no h) =
           let more : k < j = omega arith in
-          ap (take size) (beyond-same (j * size) (omega (arith, mul-le-mul-right size more, suc-mul k size)))
+          ap (take size) (beyond-same e (j * size) (omega (arith, mul-le-mul-right size more, suc-mul k size)))
 
   -- the zones before it, and one more
   pub list-same : listIn size k after ≡ listIn size k before
@@ -149,77 +132,8 @@ module _ {size k : ℕ} {before after : List ℤ} (e : Elsewhere size k before a
       let z : 0 + k ≡ k = omega arith in
       rw s (sym (tabulate-snoc k 0 (zoneAt size after)) ∙ ap₂ (λ (l : List Matrix) (m : Matrix). l ++ (m ∷ [])) list-same (ap (zoneAt size after) z))
 
-pub else-refl : {size k : ℕ} {list : List ℤ} → Elsewhere size k list list
-else-refl = record { front = refl; back = refl }
-
-pub else-trans : {size k : ℕ} {before between after : List ℤ} → Elsewhere size k before between → Elsewhere size k between after → Elsewhere size k before after
-else-trans e f = record { front = f .front ∙ e .front; back = f .back ∙ e .back }
-
--- ---- the part at place k, lent and given back
-pub lent-at : (size k : ℕ) (list : List ℤ) → take (k * size + size - k * size) (drop (k * size) list) ≡ numbersAt size list k
-lent-at size k list = let e : k * size + size - k * size ≡ size = omega arith in rw e
-
-module _ (size k : ℕ) (list out : List ℤ) (inside : k * size + size ≤ length list) (fits : length out ≡ size) where
-  abbrev given-back : List ℤ
-  given-back = putMid (k * size) (k * size + size - k * size) list out
-
-  pub back-else : Elsewhere size k list given-back
-  back-else = record {
-    front = take-put (k * size) (k * size + size - k * size) list out (omega arith);
-    back = drop-put (k * size) (k * size + size) list out (omega arith) inside (omega arith);
-  }
-
-  pub back-at : numbersAt size given-back k ≡ out
-  back-at =
-      ap (take size) (drop-at (take (k * size) list) _ (k * size) (length-take-le (k * size) list (omega arith))) ∙ take-at out _ size fits
-
--- ---- the first p numbers of a zone are copied, to base on
-pub record Copying (list₀ : List ℤ) (base : ℕ) (zone list : List ℤ) (p : ℕ) : Type 0 where
-  pub is : list ≡ paste list₀ base zone p
-  pub long : length list ≡ length list₀
-
-pub copying-start : (list : List ℤ) (base : ℕ) (zone : List ℤ) → Copying list base zone list 0
-copying-start list base zone = record { is = paste-zero list base zone; long = refl }
-
-module _ {list₀ : List ℤ} {base : ℕ} {zone list : List ℤ} {p : ℕ} (c : Copying list₀ base zone list p) where
-  -- one number more
-  pub copying-more : (x : ℤ) → SFits w32 x → x ≡ getD zone p (pos 0) → base + p < length list₀ → p < length zone
-      → Copying list₀ base zone (set list (base + p) (toZ w32 (ofZ w32 x))) (p + 1)
-  copying-more x f e inside in-zone = record {
-    is = rw (toZ-ofZ w32 x f, e, c .is, add-one p) (paste-suc list₀ base zone p (pos 0) inside in-zone);
-    long = length-set list (base + p) _ ∙ c .long;
-  }
-
-  -- those before base are as they were
-  pub copying-before : (j : ℕ) → j < base → base ≤ length list₀ → p ≤ length zone → getD list j (pos 0) ≡ getD list₀ j (pos 0)
-  copying-before j h inside in-zone =
-      let head = length-paste-head list₀ base zone p inside in-zone in
-      ap (λ (l : List ℤ). getD l j (pos 0)) (c .is)
-      ∙ List·getD-append (take base list₀ ++ take p zone) (drop (base + p) list₀) (pos 0) j (rw head (omega arith))
-      ∙ List·getD-append (take base list₀) (take p zone) (pos 0) j (rw (length-take-le base list₀ inside) h)
-      ∙ getD-take base list₀ j (pos 0) h
-
 -- ---- a store at place k
-module _ (size k : ℕ) (list zone : List ℤ) (fits : length zone ≡ size) (inside : k * size + size ≤ length list) where
-  abbrev stored : List ℤ
-  stored = paste list (k * size) zone size
-
-  at-place : length (take (k * size) list) ≡ k * size
-  at-place = length-take-le (k * size) list (omega arith)
-
-  parts : stored ≡ take (k * size) list ++ (take size zone ++ drop (k * size + size) list)
-  parts = append-assoc (take (k * size) list) (take size zone) (drop (k * size + size) list)
-
-  pub stored-else : Elsewhere size k list stored
-  stored-else = record {
-    front = rw parts (take-at (take (k * size) list) _ (k * size) at-place);
-    back = drop-paste list (k * size) zone size (omega arith) (omega arith);
-  }
-
-  pub stored-at : zoneAt size stored k ≡ boundsIn zone
-  unfolding zoneAt
-  stored-at =
-      let whole : take size zone ≡ zone = take-all size zone (omega arith) in
-      ap boundsIn
-      (ap (λ (l : List ℤ). take size (drop (k * size) l)) parts ∙ ap (take size) (drop-at (take (k * size) list) _ (k * size) at-place)
-      ∙ take-at (take size zone) _ size (rw whole fits) ∙ whole)
+pub stored-at : (size k : ℕ) (list zone : List ℤ) → length zone ≡ size → k * size + size ≤ length list
+    → zoneAt size (paste list (k * size) zone size) k ≡ boundsIn zone
+unfolding zoneAt
+stored-at size k list zone fits inside = ap boundsIn (stored-numbers size k list zone fits inside)

@@ -2,11 +2,11 @@
 use borrow.Author.Needs.{needs}
 use native.Mathlib.Omega.{arith}
 use native.Mathlib.Nat.{mul-le-mul-right, suc-mul}
-use Prim.Native.Nat.{_+_, _*_, _≤_, _<_}
+use Prim.Native.Nat.{_+_, _<_}
 use mathlib.Core.Bool.{false, cond}
 use Rattle.model.specs.Sizes.{zoneSize}
 use Rattle.lists.specs.Inner.{leftOf, PutLast}
-use Rattle.lists.proofs.places.Zones.{else-refl}
+use Rattle.memory.proofs.Side.{else-refl}
 use Rattle.lists.proofs.Held.{held-beside, held-next}
 use Rattle.lists.proofs.put_last.Statement.{statement}
 use Rattle.lists.proofs.put_last.Tie as tie

@@ -41,43 +41,39 @@ alike-long c =
     let a = s .args in
     length-at (a .n) _ (a .powers .now) (omega (arith, before c, s .pre .inside)) ∙ sym (length-at (a .n) _ (a .powers .now) (s .pre .inside))
 
-gap-requires : tie.Need-gap-requires Inv-loop μ-loop
-gap-requires c κs =
+alike-requires : tie.Need-alike-requires Inv-loop μ-loop
+alike-requires c κs =
     let a = c .before .before .before .before .args in
     rw (lent-at (a .n) (c .before .before .loop .p) (a .powers .now), lent-at (a .n) (a .r) (a .powers .now)) (alike-long (c .before))
 
-all-moved-requires : tie.Need-all-moved-requires Inv-loop μ-loop
-all-moved-requires c κs = gap-requires (c .before) κs
+gap-requires : tie.Need-gap-requires Inv-loop μ-loop
+gap-requires c κs = alike-requires (c .before .before) κs
 
 -- the comparison, of the tables at the two places
-compared : (c : tie.After-all-moved Inv-loop μ-loop) →
-    let g = c .before in
-    let k = g .before .before in
+compared : (c : tie.After-alike Inv-loop μ-loop) →
+    let k = c .before .before in
     let a = k .before .before .before .args in
     let t = tableAt (a .n) (a .powers .now) in
     let p = k .before .loop .p in
-    (g .gap .result .0 ≡ network.gap (t p) (t (a .r))) × (c .all-moved .result ≡ sameLists sameTime (added (network.gap (t p) (t (a .r))) (t p)) (t (a .r)))
+    c .alike .result ≡ sameLists sameTime (added (network.gap (t p) (t (a .r))) (t p)) (t (a .r))
 compared c =
-    let g = c .before in
-    let k = g .before .before in
+    let k = c .before .before in
     let a = k .before .before .before .args in
-    let earlier = lent-at (a .n) (k .before .loop .p) (a .powers .now) in
-    let last = lent-at (a .n) (a .r) (a .powers .now) in
-    let apart = rw (earlier, last) at (g .gap .ensures) in
-    (apart, rw (earlier, last, apart) at (c .all-moved .ensures))
+    rw (lent-at (a .n) (k .before .loop .p) (a .powers .now), lent-at (a .n) (a .r) (a .powers .now)) at (c .alike .ensures)
 
 returns : tie.Need-returns Inv-loop μ-loop
 returns c =
-    let m = c .before in
-    let k = m .before .before .before in
-    let (apart, alike) = compared m in
-    rw apart (sym (k .before .loop .inv ∙ found-here _ _ _ _ (k .loop-test .taken) (sym alike ∙ c .if1 .taken)))
+    let t = c .before in
+    let k = t .before .before .before in
+    let a = k .before .before .before .args in
+    rw (c .gap .ensures, lent-at (a .n) (k .before .loop .p) (a .powers .now), lent-at (a .n) (a .r) (a .powers .now))
+    (sym (k .before .loop .inv ∙ found-here _ _ _ _ (k .loop-test .taken) (sym (compared (t .before)) ∙ t .if1 .taken)))
 
 loop-again : tie.Need-loop-again Inv-loop μ-loop
 loop-again c =
     let m = c .before in
-    let k = m .before .before .before in
-    k .before .loop .inv ∙ found-later _ _ _ _ (k .loop-test .taken) (sym (compared m .1) ∙ c .if1 .left)
+    let k = m .before .before in
+    k .before .loop .inv ∙ found-later _ _ _ _ (k .loop-test .taken) (sym (compared m) ∙ c .if1 .left)
 
 pub repeats-spec : {M : Type 1} → statement M
 repeats-spec =
@@ -99,8 +95,8 @@ repeats-spec =
     (λ c. omega (arith, before c))
     (λ c. omega (arith, before c))
     (λ c. omega (arith, before c))
+    alike-requires
     gap-requires
-    all-moved-requires
     (λ c. omega arith)
     (λ c. omega arith)
     returns

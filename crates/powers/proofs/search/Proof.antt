@@ -16,15 +16,15 @@ Inv-loop times powers₀ n r₀ powers r = Looked n (timesIn times) powers₀ po
 abbrev μ-loop : tie.MeasureT-loop
 μ-loop times powers₀ n r₀ powers r = mostCycles - r
 
-put-first-requires : tie.Need-put-first-requires Inv-loop μ-loop
-put-first-requires c κs = let p = c .before .pre in omega (arith, p .room, p .ready .table .size)
+put-front-requires : tie.Need-put-front-requires Inv-loop μ-loop
+put-front-requires c κs = let p = c .before .pre in omega (arith, p .room, p .ready .table .size)
 
 -- the array, with power 1 at its place
-ready : (c : tie.After-put-first Inv-loop μ-loop) → let a = c .before .before .args in Searchable (a .n) (a .times .now) (c .put-first .last .0)
-ready c = let p = c .before .before .pre in record { ready = p .ready; room = omega (arith, p .room, c .put-first .kept .0) }
+ready : (c : tie.After-put-front Inv-loop μ-loop) → let a = c .before .before .args in Searchable (a .n) (a .times .now) (c .put-front .last .0)
+ready c = let p = c .before .before .pre in record { ready = p .ready; room = omega (arith, p .room, c .put-front .kept .0) }
 
 loop-holds : tie.Need-loop-holds Inv-loop μ-loop
-loop-holds c = let f = c .before in looked-first (ready f) (f .put-first .ensures)
+loop-holds c = let f = c .before in looked-first (ready f) (f .put-front .ensures)
 
 product-requires : tie.Need-product-requires Inv-loop μ-loop
 product-requires c κs = let k = c .before in makeable (ready (k .before .before .before)) (k .before .loop .inv) (omega arith)
@@ -39,7 +39,7 @@ same-length : tie.Need-same-length Inv-loop μ-loop
 same-length c =
     let p = c .before .before .before .before .before .before in
     let l = p .before .before .before in
-    p .product .kept .1 .0 ∙ l .loop .inv .long ∙ l .before .before .put-first .kept .0
+    p .product .kept .1 .0 ∙ l .loop .inv .long ∙ l .before .before .put-front .kept .0
 
 returns : tie.Need-returns Inv-loop μ-loop
 returns c =
@@ -64,7 +64,7 @@ search-spec =
     (tie.spec
     Inv-loop
     μ-loop
-    put-first-requires
+    put-front-requires
     loop-holds
     product-requires
     (λ c. omega arith)
@@ -76,5 +76,5 @@ search-spec =
     (λ c. omega arith)
     (λ c. omega arith)
     loop-again
-    (λ c. c .before .loop .inv .long ∙ c .before .before .before .put-first .kept .0)
+    (λ c. c .before .loop .inv .long ∙ c .before .before .before .put-front .kept .0)
     (λ c. sym (c .before .loop .inv .new ∙ left-none _ _ _ (omega arith))))

@@ -1,64 +1,51 @@
--- The zone's bounds in parts, and the start that they leave.
+-- The start is picked in the zone in whole parts.
 use borrow.Author.Needs.{needs}
-use native.Mathlib.Omega.{arith}
-use mathlib.Core.Path.{_≡_, sym, ap, _∙_}
-use mathlib.Core.List.{map}
-use lib.ListN.{take}
-use Prim.Native.Nat.{ℕ}
-use Rattle.model.specs.Bound.{scale, whole}
+use mathlib.Core.Path.{sym, ap, _∙_}
+use mathlib.Core.List.{List}
+use lib.IntN.{ℤ}
+use Rattle.model.specs.Search.{pick}
 use Rattle.model.specs.Answers.{allTimes}
-use Rattle.memory.specs.Numbers as Memory
-use Rattle.memory.proofs.Places.{zone-fits}
-use Rattle.memory.proofs.Arrays.{part-room, part-long, part-zone}
+use Rattle.memory.proofs.Arrays.{part-room, part-long, part-zone, part-is}
 use Rattle.starts.specs.Numbers.{boundsIn}
-use Rattle.starts.proofs.Readied.{bounds-ready, start-in}
+use Rattle.starts.proofs.Readied.{start-in}
 use Rattle.starts.proofs.start.Statement.{statement}
 use Rattle.starts.proofs.start.Tie as tie
 
-in-parts-requires : tie.Need-in-parts-requires
-in-parts-requires c κs =
-    let p = c .before .pre in
-    (let h = zone-fits (p .departures) in omega (arith, p .source .size), p .few-parts)
-
-array-share-prefix-bounds : tie.Need-array-share-prefix-bounds
-array-share-prefix-bounds c =
+array-share-prefix-wholes : tie.Need-array-share-prefix-wholes
+array-share-prefix-wholes c =
     let z = c .before in
-    part-room (z .before .pre .departures) (z .zone-size .ensures) (c .in-parts .result) (c .in-parts .ensures .long)
+    part-room (z .before .pre .departures) (z .zone-size .ensures) (c .whole-zone .result) (c .whole-zone .ensures .long)
 
-slice-aggregate-picked : tie.Need-slice-aggregate-picked
-slice-aggregate-picked c =
-    let p = c .before in
-    let z = p .before in
-    sym (part-long (z .before .pre .departures) (z .zone-size .ensures) (p .in-parts .result) (p .in-parts .ensures .long))
+slice-aggregate-pick : tie.Need-slice-aggregate-pick
+slice-aggregate-pick c =
+    let t = c .before in
+    let z = t .before in
+    sym (part-long (z .before .pre .departures) (z .zone-size .ensures) (t .whole-zone .result) (t .whole-zone .ensures .long))
 
--- the bounds are the zone's, in parts
-there : (c : tie.After-in-parts) →
-    let z = c .before in
-    let s = z .before .args in
-    boundsIn (take (z .zone-size .result) (c .in-parts .result)) ≡ map whole (map (scale (s .parts)) (Memory.boundsIn (s .zone .now)))
-there c =
-    let z = c .before in
-    ap (λ (k : ℕ). boundsIn (take k (c .in-parts .result))) (z .zone-size .ensures ∙ sym (z .before .pre .source .size)) ∙ c .in-parts .ensures .is
-
-picked-requires : tie.Need-picked-requires
-picked-requires c κs =
-    let p = c .before in
-    let z = p .before in
-    let pre = z .before .pre in
-    bounds-ready pre _ (there p) (part-zone (pre .departures) (z .zone-size .ensures) (p .in-parts .result) (p .in-parts .ensures .long))
+pick-requires : tie.Need-pick-requires
+pick-requires c κs =
+    let t = c .before in
+    let z = t .before in
+    let d = z .before .pre .departures in
+    (d, part-zone d (z .zone-size .ensures) (t .whole-zone .result) (t .whole-zone .ensures .long))
 
 returns : tie.Need-returns
 returns c =
-    let p = c .before .before in
-    c .picked .ensures ∙ ap allTimes (start-in (p .before .before .pre) _ (there p))
+    let t = c .before .before in
+    let z = t .before in
+    let s = z .before in
+    c .pick .ensures
+    ∙ ap (λ (numbers : List ℤ). allTimes (pick (s .args .n) (boundsIn numbers)))
+    (part-is (s .pre .departures) (z .zone-size .ensures) (t .whole-zone .result) (t .whole-zone .ensures .long))
+    ∙ ap allTimes (start-in (s .args .n) (s .args .parts) _ _ (t .whole-zone .ensures .is))
 
 pub start-spec : {M : Type 1} → statement M
 start-spec =
     tie.close
     (tie.spec
     (λ c κs. search needs)
-    in-parts-requires
-    array-share-prefix-bounds
-    slice-aggregate-picked
-    picked-requires
+    (λ c κs. search needs)
+    array-share-prefix-wholes
+    slice-aggregate-pick
+    pick-requires
     returns)

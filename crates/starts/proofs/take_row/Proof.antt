@@ -3,6 +3,7 @@ use Prim.Native.Nat.{suc, _-_, _≤_}
 use native.Mathlib.Omega.{arith}
 use mathlib.Core.Path.{_≡_, refl}
 use lib.ListN.{length}
+use Rattle.model.proofs.Size.{small-mono}
 use Rattle.model.proofs.Tabulated.{from, from-first, from-end}
 use Rattle.memory.proofs.Toward.{Toward, toward-start, first-of, first-some, onward-to, all-in, next-one}
 use Rattle.starts.specs.Numbers.{boundsIn, Stored}
@@ -33,7 +34,10 @@ constrain-requires c κs =
     let l = b .before .before in
     let is = b .bound-at .ensures .is in
     record {
-      one = record { taking = rw is (first-of (next-one _ _ _ (omega arith)) (l .loop .inv .0)); small = b .bound-at .ensures .small };
+      one = record {
+        taking = rw is (first-of (next-one _ _ _ (omega arith)) (l .loop .inv .0));
+        small = small-mono (omega arith) (b .bound-at .ensures .small);
+      };
       times = rw is (first-some (next-one _ _ _ (omega arith)) (l .loop .inv .0) (l .before .pre .ready .times));
     }
 

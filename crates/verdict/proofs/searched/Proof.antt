@@ -2,25 +2,29 @@
 use borrow.Author.Needs.{needs}
 use native.Mathlib.Omega.{arith}
 use mathlib.Core.Path.{_≡_, sym, ap, _∙_}
+use mathlib.Core.Option.{none}
 use Prim.Native.Nat.{ℕ}
 use lib.IntN.{pos}
 use lib.ListN.{length, replicate}
 use lib.Seq.{length-take-le}
 use Rattle.model.specs.Network.{repeatOf}
-use Rattle.model.specs.Faults.{network}
+use Rattle.model.specs.Faults.{network, caseFault}
 use Rattle.model.specs.Search.{plan}
 use Rattle.model.specs.Conditions.{Departures}
-use Rattle.model.proofs.Limits.{limits-of}
+use Rattle.model.proofs.Limits.{case-of, limits-of}
 use Rattle.model.proofs.Places.{table-fits, pattern-fits}
+use Rattle.memory.proofs.Cased.{CaseIn, table-room, pattern-room, in-pattern, departures, times-in-limit, start-in-limit, target-in-limit}
 use Rattle.powers.specs.Readings.{repeatRead}
 use Rattle.verdict.specs.Planning.{Planned}
-use Rattle.verdict.proofs.Within.{CaseIn, table-room, pattern-room, in-pattern, departures, times-in-limit, start-in-limit, target-in-limit}
 use Rattle.verdict.proofs.Within.{counted, searchable, powers-ready, repeat-is, planned, found, plan-within}
 use Rattle.verdict.proofs.searched.Statement.{statement}
 use Rattle.verdict.proofs.searched.Tie as tie
 
+sound : (c : tie.Start) → caseFault (c .args .case) ≡ none
+sound c = case-of (c .args .case) (c .args .capacity) (length (c .args .work .now)) (c .pre)
+
 few : (c : tie.Start) → Departures (c .args .case .n)
-few c = departures (c .args .case) (c .args .capacity) (length (c .args .work .now)) (c .pre)
+few c = departures (c .args .case) (sound c)
 
 table-size-requires : tie.Need-table-size-requires
 table-size-requires c κs = few c .few
@@ -32,19 +36,19 @@ times-in-requires : tie.Need-times-in-requires
 times-in-requires c κs =
     let t = c .before .before .before .before in
     let a = t .before in
-    rw (t .table-size .ensures) (omega (arith, table-fits (few a)), times-in-limit (a .args .case) (a .args .capacity) _ (a .pre))
+    rw (t .table-size .ensures) (omega (arith, table-fits (few a)), times-in-limit (a .args .case) (sound a))
 
 bounds-in-requires : tie.Need-bounds-in-requires
 bounds-in-requires c κs =
     let p = c .before .before .before .before in
     let a = p .before .before in
-    rw (p .pattern-size .ensures) (pattern-fits (few a), start-in-limit (a .args .case) (a .args .capacity) _ (a .pre))
+    rw (p .pattern-size .ensures) (pattern-fits (few a), start-in-limit (a .args .case) (sound a))
 
 bounds-in-requires-2 : tie.Need-bounds-in-requires-2
 bounds-in-requires-2 c κs =
     let p = c .before .before .before .before .before in
     let a = p .before .before in
-    rw (p .pattern-size .ensures) (pattern-fits (few a), target-in-limit (a .args .case) (a .args .capacity) _ (a .pre))
+    rw (p .pattern-size .ensures) (pattern-fits (few a), target-in-limit (a .args .case) (sound a))
 
 -- the case in memory
 in-memory : (c : tie.After-bounds-in2) →

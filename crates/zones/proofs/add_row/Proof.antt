@@ -13,7 +13,7 @@ use Rattle.memory.specs.Numbers.{boundsIn, timesIn, Limit}
 use Rattle.zones.specs.Conditions.{RowReady}
 use Rattle.zones.specs.Inner.{Adds, images}
 use Rattle.memory.proofs.Toward.{Toward, Parts, toward-start, first-of}
-use Rattle.zones.proofs.Leaving.{given-up, onward, at-last}
+use Rattle.memory.proofs.Leaving.{given-up, onward, at-last}
 use Rattle.zones.proofs.add_row.Statement.{statement}
 use Rattle.zones.proofs.add_row.Tie as tie
 

@@ -14,7 +14,7 @@ use Rattle.model.proofs.Tabulated.{from, from-first, from-end}
 use Rattle.memory.specs.Numbers.{boundsIn, timesIn, asBound, Limit, InMemory}
 use Rattle.zones.proofs.Columns.{slack-small}
 use Rattle.memory.proofs.Toward.{Toward, Parts, toward-start, first-of, next-one}
-use Rattle.zones.proofs.Leaving.{given-up, onward, arrived}
+use Rattle.memory.proofs.Leaving.{given-up, onward, arrived}
 use Rattle.zones.proofs.attain.Statement.{statement}
 use Rattle.zones.proofs.attain.Tie as tie
 

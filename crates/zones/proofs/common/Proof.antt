@@ -10,7 +10,7 @@ use Rattle.model.proofs.Tabulated.{from, from-first}
 use Rattle.memory.specs.Numbers.{boundsIn, Limit}
 use Rattle.zones.specs.Inner.{pairRow}
 use Rattle.memory.proofs.Toward.{Toward, toward-start, first-of, next-list, end-list}
-use Rattle.zones.proofs.Leaving.{given-up, onward, arrived}
+use Rattle.memory.proofs.Leaving.{given-up, onward, arrived}
 use Rattle.zones.proofs.common.Statement.{statement}
 use Rattle.zones.proofs.common.Tie as tie
 

@@ -8,7 +8,7 @@ use Rattle.model.proofs.Tabulated.{from, from-first, from-end}
 use Rattle.memory.specs.Numbers.{boundsIn, Limit}
 use Rattle.zones.specs.Inner.{pairRow, pairLimit}
 use Rattle.memory.proofs.Toward.{Toward, toward-start, first-of, next-one}
-use Rattle.zones.proofs.Leaving.{given-up, onward, arrived}
+use Rattle.memory.proofs.Leaving.{given-up, onward, arrived}
 use Rattle.zones.proofs.common_row.Statement.{statement}
 use Rattle.zones.proofs.common_row.Tie as tie
 

@@ -12,7 +12,8 @@ use Rattle.memory.specs.Conditions.{ZoneIn}
 use Rattle.memory.proofs.Places.{bounds-size}
 use Rattle.memory.proofs.Fills.{Filled, rows-start}
 use Rattle.memory.proofs.Relaxing.{via, inside, none-left, next-closed, next-small, row-taken, all-taken}
-use Rattle.zones.proofs.Leaving.{is-gone, is-kept, zone-of}
+use Rattle.memory.proofs.Leaving.{is-gone, is-kept}
+use Rattle.zones.proofs.Standing.{zone-of}
 use Rattle.zones.proofs.constrain.Statement.{statement}
 use Rattle.zones.proofs.constrain.Tie as tie
 

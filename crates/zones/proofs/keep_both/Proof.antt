@@ -6,7 +6,7 @@ use Rattle.model.specs.Matrix.{Constraint}
 use Rattle.memory.specs.Numbers.{boundsIn, timesIn, Limit}
 use Rattle.zones.specs.Inner.{keepOne, keepBoth}
 use Rattle.memory.proofs.Toward.{Toward, Parts, toward-start, first-of}
-use Rattle.zones.proofs.Leaving.{given-up, onward, at-last}
+use Rattle.memory.proofs.Leaving.{given-up, onward, at-last}
 use Rattle.zones.proofs.keep_both.Statement.{statement}
 use Rattle.zones.proofs.keep_both.Tie as tie
 

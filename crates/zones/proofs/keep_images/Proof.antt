@@ -8,7 +8,7 @@ use Rattle.model.proofs.Tabulated.{from, from-first}
 use Rattle.memory.specs.Numbers.{boundsIn, timesIn, Limit}
 use Rattle.zones.specs.Inner.{imagePairs, images}
 use Rattle.memory.proofs.Toward.{Toward, toward-start, first-of, next-list, end-list}
-use Rattle.zones.proofs.Leaving.{given-up, onward, arrived}
+use Rattle.memory.proofs.Leaving.{given-up, onward, arrived}
 use Rattle.zones.proofs.keep_images.Statement.{statement}
 use Rattle.zones.proofs.keep_images.Tie as tie
 

@@ -10,7 +10,7 @@ use Rattle.model.specs.Conditions.{Small, sized}
 use Rattle.model.proofs.Size.{small-mono, small-sum, minus-small}
 use Rattle.zones.specs.declared.Choice.{Choice}
 use Rattle.memory.specs.Numbers.{boundsIn, timesIn, asBound, InMemory}
-use Rattle.zones.specs.Conditions.{kept}
+use Rattle.memory.specs.Matrices.{kept}
 use borrow.Author.Needs.{needs}
 use Rattle.zones.proofs.keep_one.Statement.{statement}
 use Rattle.zones.proofs.keep_one.Tie as tie

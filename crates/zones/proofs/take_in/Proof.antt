@@ -4,7 +4,8 @@ use Rattle.model.specs.Bound.{any}
 use Rattle.memory.specs.Numbers.{ofHalves}
 use Rattle.memory.proofs.Relaxing.{inside, all-left}
 use Rattle.zones.specs.Conditions.{TakingOne}
-use Rattle.zones.proofs.Leaving.{is-kept, zone-of}
+use Rattle.memory.proofs.Leaving.{is-kept}
+use Rattle.zones.proofs.Standing.{zone-of}
 use Rattle.zones.proofs.take_in.Statement.{statement}
 use Rattle.zones.proofs.take_in.Tie as tie
 

@@ -4,9 +4,9 @@ use mathlib.Core.Path.{_≡_}
 use lib.Seq.{paste}
 use Prim.Native.Nat.{_*_, _-_}
 use Rattle.model.specs.Sizes.{zoneSize}
-use Rattle.lists.specs.Lists.{numbersAt}
+use Rattle.memory.specs.Side.{numbersAt}
 use Rattle.lists.specs.Met.{freeAt}
-use Rattle.lists.proofs.places.Zones.{else-trans}
+use Rattle.memory.proofs.Side.{else-trans}
 use Rattle.lists.proofs.met.Growing.{here-fits, parent-before, copied-else, copied-at, add-ready}
 use Rattle.lists.proofs.met.grow.Statement.{statement}
 use Rattle.lists.proofs.met.grow.Tie as tie

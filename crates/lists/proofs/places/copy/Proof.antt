@@ -6,8 +6,8 @@ use mathlib.Core.Path.{_≡_, sym, ap, _∙_}
 use lib.IntN.{pos}
 use lib.ListN.{length, drop}
 use lib.Seq.{paste, getD-take, getD-drop}
-use Rattle.lists.specs.Lists.{numbersAt}
-use Rattle.lists.proofs.places.Zones.{length-numbers, Copying, copying-start, copying-more, copying-before}
+use Rattle.memory.specs.Side.{numbersAt}
+use Rattle.memory.proofs.Side.{length-numbers, Copying, copying-start, copying-more, copying-before}
 use Rattle.lists.proofs.places.copy.Statement.{statement}
 use Rattle.lists.proofs.places.copy.Tie as tie
 

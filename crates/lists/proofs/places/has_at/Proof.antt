@@ -1,7 +1,7 @@
 -- The zone at place k is lent beside the list.
 use borrow.Author.Needs.{needs}
 use Rattle.lists.specs.Lists.{zoneAt}
-use Rattle.lists.proofs.places.Zones.{lent-at}
+use Rattle.memory.proofs.Side.{lent-at}
 use Rattle.lists.proofs.places.has_at.Statement.{statement}
 use Rattle.lists.proofs.places.has_at.Tie as tie
 

@@ -3,7 +3,7 @@ use native.Mathlib.Omega.{arith}
 use Prim.Native.Nat.{_*_, _-_, _≤_}
 use mathlib.Core.Path.{_≡_, refl, ap, _∙_}
 use lib.Seq.{paste}
-use Rattle.lists.proofs.places.Zones.{Copying, copying-start, copying-more}
+use Rattle.memory.proofs.Side.{Copying, copying-start, copying-more}
 use Rattle.lists.proofs.places.store.Statement.{statement}
 use Rattle.lists.proofs.places.store.Tie as tie
 
