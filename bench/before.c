@@ -1,10 +1,20 @@
-/* For archives from before there were fifteen departures: the function that the
- * benchmark compares, by today's name and with today's arrays. `compare.sh` adds
- * it to such an archive. Copying the arrays takes about 0.1 microseconds a call. */
+/* For archives from before there were decisions, which a comparison does not ask
+ * for, and, with SEVEN defined, from before there were fifteen departures: the
+ * function that the benchmark compares, by today's name and with today's arrays.
+ * `compare.sh` adds it to such an archive. Copying the arrays takes about 0.1
+ * microseconds a call. */
 
 #include <stdint.h>
 #include <stdlib.h>
 #include <string.h>
+
+/* What a comparison does not call. */
+#define LEFT_OUT(name) \
+    void name(void) { abort(); }
+
+LEFT_OUT(tramcheck_decide_15)
+
+#ifdef SEVEN
 
 /* The places of an archive for up to seven departures, and today's. */
 enum { TIMES = 49, BOUNDS = 56, ENTRIES = 161, DEPARTURES = 7 };
@@ -39,10 +49,6 @@ uint32_t tramcheck_verdict_unpacked_15(
                                       fault, value, parts, start);
 }
 
-/* What a comparison does not call. */
-#define LEFT_OUT(name) \
-    void name(void) { abort(); }
-
 LEFT_OUT(tramcheck_verdict_15)
 LEFT_OUT(tramcheck_preview_15)
 LEFT_OUT(tramcheck_commit_15)
@@ -53,3 +59,5 @@ LEFT_OUT(tramcheck_write_wide_15)
 LEFT_OUT(tramcheck_to_wide)
 LEFT_OUT(tramcheck_to_old)
 LEFT_OUT(tramcheck_read_15)
+
+#endif

@@ -8,7 +8,8 @@
 # target/compare/after, and `bench compare` is run. In both builds each function
 # of the archive begins a page: where the linker puts it otherwise made
 # differences of up to 8 % between two builds with the same archive. An archive
-# from before there were fifteen departures is given today's names by before.c.
+# from before there were fifteen departures, or decisions, is given today's names
+# by before.c.
 set -eu
 before=$(realpath "$1")
 after=$(realpath "$2")
@@ -20,10 +21,16 @@ build() {
     mkdir -p "$folder/$1"
     archive=$folder/$1/libembed.a
     cp "$2" "$archive"
-    if ! nm "$archive" | grep -q ' T tramcheck_verdict_unpacked_15$'; then
-        cc -O2 -ffunction-sections -c before.c -o "$folder/$1/before.o"
+    names=$(nm "$archive")
+    seven=
+    case $names in *' T tramcheck_verdict_unpacked_15'*) ;; *) seven=-DSEVEN ;; esac
+    case $names in
+    *' T tramcheck_decide_15'*) ;;
+    *)
+        cc -O2 -ffunction-sections $seven -c before.c -o "$folder/$1/before.o"
         ar r "$archive" "$folder/$1/before.o"
-    fi
+        ;;
+    esac
     functions=$(objdump -h "$archive" | awk '$2 ~ /^\.text\../ { print $2 }')
     objcopy $(printf -- '--set-section-alignment %s=4096 ' $functions) "$archive"
     EMBED_DIR=$folder/$1 cargo build --quiet --release --offline --target-dir "$folder/$1"

@@ -15,10 +15,10 @@ const SELECTIONS: u64 = 823_543;
 /// Zones of each list from list 1 on: which departures are last.
 const ZONES: u64 = 127;
 
-/// Runs a version of plain Rust once and prints what it took.
-fn timed(name: &str, case: &Case, version: fn(&Case, usize) -> (Answer, Cost)) -> (Answer, Cost) {
+/// Runs plain Rust once, with so many sets remembered, and prints what it took.
+fn timed(name: &str, case: &Case, remembered: usize) -> (Answer, Cost) {
     let begin = Instant::now();
-    let found = version(case, capacity(case.n));
+    let found = rows::remembering(case, capacity(case.n), remembered);
     let took = words(begin.elapsed().as_secs_f64());
     let selections = found.1.selections;
     println!("| {name} | {} | {selections} | {took} |", case.horizon);
@@ -31,8 +31,8 @@ pub fn print() {
     println!("\n| zeros of 7, plain Rust | N | selections built | time |");
     println!("|---|---|---|---|");
     let case = zeros(2);
-    let (with, _) = timed("equal sets dropped", &case, rows::verdict);
-    let (without, cost) = timed("nothing dropped", &case, rows::without_dropping);
+    let (with, _) = timed("equal sets dropped", &case, rows::remembered(case.n));
+    let (without, cost) = timed("nothing dropped", &case, 0);
     assert_eq!(with, without, "two answers on the table of zeros");
     assert_eq!(cost.selections, (1 + ZONES) * SELECTIONS);
 }

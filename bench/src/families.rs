@@ -1,5 +1,6 @@
 //! Families of cases. Seeds are fixed, so each run has the same cases.
 
+use crate::kinds::Kind;
 use crate::rows;
 use evidence::archive::Verdict;
 use evidence::case::{most, pair, Case, Pattern, Times, BOUNDS, DEPARTURES};
@@ -90,21 +91,16 @@ fn of_use(random: &mut Random, case: &Case) -> bool {
 }
 
 /// Random tables with `counts` times a row, of 60 to 1,200 seconds.
-fn random_family(name: &str, n: usize, counts: &[usize]) -> Family {
-    let mut random = Random::new(n as u64);
-    let mut cases = Vec::new();
-    while cases.len() < CASES {
-        let count = random.one_of(counts);
-        let case = table(&mut random, n, count, (60, 1200));
-        let case = with_patterns(&mut random, case, cases.len() % 4);
-        if of_use(&mut random, &case) {
-            cases.push(case);
-        }
-    }
-    Family {
+fn random_kind(name: &str, n: usize, counts: &'static [usize]) -> Kind {
+    Kind {
         name: format!("{name} {n}"),
-        cases,
-        limit: LIMIT,
+        seed: n as u64,
+        draw: Box::new(move |random, number| {
+            let count = random.one_of(counts);
+            let case = table(random, n, count, (60, 1200));
+            with_patterns(random, case, number % 4)
+        }),
+        of_use,
     }
 }
 
@@ -126,23 +122,26 @@ fn connected(case: &Case) -> bool {
 
 /// Table 1 of document 000: irreducible tables with 3 times of 1 to 20 in each
 /// row, from x(1) >= ... >= x(5) to x(1) <= ... <= x(5).
-fn document_family(n: usize) -> Family {
-    let mut random = Random::new(100 + n as u64);
-    let mut cases = Vec::new();
-    while cases.len() < CASES {
-        let mut case = table(&mut random, n, 3, (1, 20));
+fn document_case(random: &mut Random, n: usize) -> Case {
+    loop {
+        let mut case = table(random, n, 3, (1, 20));
         for i in 1..5 {
             case.start[pair(n, i + 1, i)] = Some(most(0));
             case.target[pair(n, i, i + 1)] = Some(most(0));
         }
         if connected(&case) {
-            cases.push(case);
+            return case;
         }
     }
-    Family {
+}
+
+/// All of them are of use.
+fn document_kind(n: usize) -> Kind {
+    Kind {
         name: format!("document 000 ({n}, 3)"),
-        cases,
-        limit: LIMIT,
+        seed: 100 + n as u64,
+        draw: Box::new(move |random, _| document_case(random, n)),
+        of_use: |_, _| true,
     }
 }
 
@@ -159,21 +158,15 @@ pub fn ring(random: &mut Random, n: usize, count: usize) -> Case {
 }
 
 /// Rings of 7.
-fn ring_family(count: usize) -> Family {
-    let n = 7;
-    let mut random = Random::new(200 + count as u64);
-    let mut cases = Vec::new();
-    while cases.len() < CASES {
-        let case = ring(&mut random, n, count);
-        let case = with_patterns(&mut random, case, cases.len() % 4);
-        if of_use(&mut random, &case) {
-            cases.push(case);
-        }
-    }
-    Family {
+fn ring_kind(count: usize) -> Kind {
+    Kind {
         name: format!("ring of 7, {count} a row"),
-        cases,
-        limit: LIMIT,
+        seed: 200 + count as u64,
+        draw: Box::new(move |random, number| {
+            let case = ring(random, 7, count);
+            with_patterns(random, case, number % 4)
+        }),
+        of_use,
     }
 }
 
@@ -199,20 +192,20 @@ fn zero_family(horizon: usize) -> Family {
     }
 }
 
-/// Tables of 7 departures without a blank, over one cycle; in every other
-/// case a start gets into the target. For the comparison with a solver.
-pub fn one_cycle() -> Vec<Case> {
+/// Tables without a blank, over one cycle; in every other case a start gets into
+/// the target. For the comparison with a solver.
+pub fn one_cycle(n: usize) -> Vec<Case> {
     let mut random = Random::new(300);
     let mut cases = Vec::new();
     while cases.len() < 6 {
-        let mut case = table(&mut random, 7, 7, (60, 1200));
+        let mut case = table(&mut random, n, n, (60, 1200));
         let mut x = [0; DEPARTURES];
-        x[..7].fill_with(|| random.between(0, 1200));
+        x[..n].fill_with(|| random.between(0, 1200));
         let then = image(&case, &x, 1 + cases.len() % 2);
         case.horizon = 1;
-        case.start = around(7, &x, 10, true);
-        case.target = around(7, &then, 10, true);
-        let verdict = rows::verdict(&case, capacity(7)).0.verdict;
+        case.start = around(n, &x, 10, true);
+        case.target = around(n, &then, 10, true);
+        let verdict = rows::verdict(&case, capacity(n)).0.verdict;
         if !matches!(verdict, Verdict::Refused(_)) {
             cases.push(case);
         }
@@ -220,20 +213,27 @@ pub fn one_cycle() -> Vec<Case> {
     cases
 }
 
+/// The kinds of random cases, in the order of the table.
+pub fn kinds() -> Vec<Kind> {
+    vec![
+        random_kind("dense", 5, &[5]),
+        random_kind("dense", 6, &[6]),
+        random_kind("dense", 7, &[7]),
+        random_kind("sparse", 5, &[2, 3]),
+        random_kind("sparse", 6, &[2, 3]),
+        random_kind("sparse", 7, &[2, 3]),
+        document_kind(5),
+        document_kind(6),
+        document_kind(7),
+        ring_kind(2),
+        ring_kind(3),
+    ]
+}
+
 /// All families, in the order of the table.
 pub fn all() -> Vec<Family> {
-    let mut families = Vec::new();
-    for n in 5..=7 {
-        families.push(random_family("dense", n, &[n]));
-    }
-    for n in 5..=7 {
-        families.push(random_family("sparse", n, &[2, 3]));
-    }
-    for n in 5..=7 {
-        families.push(document_family(n));
-    }
-    families.push(ring_family(2));
-    families.push(ring_family(3));
+    let kinds = kinds().into_iter();
+    let mut families: Vec<Family> = kinds.map(|kind| kind.family(CASES, LIMIT)).collect();
     families.extend([1, 2, 64].map(zero_family));
     families
 }

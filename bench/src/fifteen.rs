@@ -1,6 +1,7 @@
 //! Families of 15 departures. Seeds are fixed, so each run has the same cases.
 
 use crate::families::{around, ring, table, window, with_patterns, Family};
+use crate::kinds::Kind;
 use crate::rows;
 use evidence::archive::Verdict;
 use evidence::case::{most, pair, Case, DEPARTURES};
@@ -37,17 +38,16 @@ fn of_use(case: &Case) -> bool {
 }
 
 /// Random tables; the kinds of patterns take turns.
-fn random_family(name: &str, seed: u64, draw: Draw) -> Family {
-    let mut random = Random::new(seed);
-    let mut cases = Vec::new();
-    while cases.len() < CASES {
-        let case = draw(&mut random);
-        let case = with_patterns(&mut random, case, cases.len() % 4);
-        if of_use(&case) {
-            cases.push(case);
-        }
+fn kind(name: &str, seed: u64, draw: Draw) -> Kind {
+    Kind {
+        name: name.to_string(),
+        seed,
+        draw: Box::new(move |random, number| {
+            let case = draw(random);
+            with_patterns(random, case, number % 4)
+        }),
+        of_use: |_, case| of_use(case),
     }
-    family(name, cases)
 }
 
 /// Times of 60 to 1,200 seconds, so many in each row.
@@ -82,42 +82,50 @@ fn zeros() -> Case {
     without_start(case)
 }
 
-/// The least that x(15) - x(14) can be in a table without a blank.
-fn least_apart(case: &Case) -> i64 {
+/// The least that x(15) - x(i) can be in a table without a blank.
+fn least_apart(case: &Case, i: usize) -> i64 {
     let time = |row: usize, column: usize| case.time(row - 1, column).expect("no blank");
-    let apart = (0..N).map(|column| time(15, column) - time(14, column));
+    let apart = (0..N).map(|column| time(15, column) - time(i, column));
     apart.min().expect("a column")
 }
 
-/// A table without a blank whose target bounds x(15) - x(14) alone, to the least
-/// that it can be or to a second less. All rows but the last two are free, so that
-/// whatever they select is built before it is found out to be empty.
-fn led(random: &mut Random, less: i64) -> Case {
+/// A table without a blank whose target bounds x(15) - x(i) alone, to the least that
+/// it can be or to a second less. All other rows are free, so that whatever they
+/// select is built before the last row tells that it is empty.
+fn led(random: &mut Random, i: usize, less: i64) -> Case {
     let mut case = times(random, N);
-    case.target[pair(N, 15, 14)] = Some(most(least_apart(&case) - less));
+    case.target[pair(N, 15, i)] = Some(most(least_apart(&case, i) - less));
     without_start(case)
 }
 
 /// Every other case cannot be met.
-fn led_family() -> Family {
+fn led_family(name: &str, i: usize) -> Family {
     let mut random = Random::new(600);
-    let cases = (0..CASES / 2).map(|number| led(&mut random, number as i64 % 2));
-    family("led 15", cases.collect())
+    let cases = (0..CASES / 2).map(|number| led(&mut random, i, number as i64 % 2));
+    family(name, cases.collect())
+}
+
+/// The kinds of random cases, in the order of the table.
+pub fn kinds() -> Vec<Kind> {
+    vec![
+        kind("dense 15", 501, |random| times(random, N)),
+        kind("half full 15", 502, |random| times(random, N / 2)),
+        kind("sparse 15", 503, |random| {
+            let count = 2 + random.below(2);
+            times(random, count)
+        }),
+        kind("few waits 15", 506, few_waits),
+        kind("ring of 15, 2 a row", 504, |random| ring(random, N, 2)),
+        kind("ring of 15, 3 a row", 505, |random| ring(random, N, 3)),
+    ]
 }
 
 /// All families, in the order of the table.
 pub fn all() -> Vec<Family> {
-    vec![
-        random_family("dense 15", 501, |random| times(random, N)),
-        random_family("half full 15", 502, |random| times(random, N / 2)),
-        random_family("sparse 15", 503, |random| {
-            let count = 2 + random.below(2);
-            times(random, count)
-        }),
-        random_family("few waits 15", 506, few_waits),
-        random_family("ring of 15, 2 a row", 504, |random| ring(random, N, 2)),
-        random_family("ring of 15, 3 a row", 505, |random| ring(random, N, 3)),
-        family("zeros of 15, 5 columns", vec![zeros()]),
-        led_family(),
-    ]
+    let kinds = kinds().into_iter();
+    let mut families: Vec<Family> = kinds.map(|kind| kind.family(CASES, 0)).collect();
+    families.push(family("zeros of 15, 5 columns", vec![zeros()]));
+    families.push(led_family("led 15", 14));
+    families.push(led_family("led 15, by row 1", 1));
+    families
 }

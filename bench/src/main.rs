@@ -8,34 +8,46 @@
 //!     bench decide-case HEX        the decision on one packed case
 //!     bench dropping               what dropping equal sets saves
 //!     bench fifteen WORD...        families of 15 departures, with a time limit
+//!     bench full WORD...           how often the table of zones runs full
 //!     bench packing                writing and reading packed cases
 //!     bench z3                     the comparison with z3
 //!     bench compare BEFORE WORD... another build of this program and this one
 //!     bench copying WORD...        which of the library's instructions copy
-//!     bench slowest SEED STEPS     a search for a slow case
+//!     bench slowest SEED STEPS     a search for a slow case; 60s for a minute
 //!     bench case HEX               one packed case
 //!
 //! `bench turns`, `bench once` and `bench one` are what compare, copying, decide and
 //! fifteen start.
 
 use bench::families::{self, Family};
+use bench::kinds::Kind;
 use bench::{
-    compare, copying, decide, decide_slowest, dropping, fifteen, limited, packing, questions,
+    compare, copying, decide, decide_slowest, dropping, fifteen, full, limited, packing, questions,
     slowest, table, z3,
 };
 use std::env;
 use std::process::ExitCode;
 
+/// Whether a name has one of the words, or there are none.
+fn named(name: &str, words: &[&str]) -> bool {
+    words.is_empty() || words.iter().any(|word| name.contains(word))
+}
+
 /// The families whose names have one of the words, or all without any.
 fn among(mut families: Vec<Family>, words: &[&str]) -> Vec<Family> {
-    let named = |name: &str| words.iter().any(|word| name.contains(word));
-    families.retain(|family| words.is_empty() || named(&family.name));
+    families.retain(|family| named(&family.name, words));
     families
 }
 
 /// The same of those of up to 7 departures.
 fn chosen(words: &[&str]) -> Vec<Family> {
     among(families::all(), words)
+}
+
+/// The same of the random kinds of all sizes.
+fn kinds(words: &[&str]) -> Vec<Kind> {
+    let kinds = families::kinds().into_iter().chain(fifteen::kinds());
+    kinds.filter(|kind| named(&kind.name, words)).collect()
 }
 
 /// All families.
@@ -64,6 +76,10 @@ fn run(words: &[&str]) -> Result<(), String> {
         ["once"] => copying::once(),
         ["turns"] => compare::turns(),
         ["case", hex] => slowest::one(hex),
+        ["full", words @ ..] => {
+            full::print(&kinds(words));
+            Ok(())
+        }
         ["z3"] => solver(),
         ["dropping"] => {
             dropping::print();

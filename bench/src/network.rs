@@ -5,7 +5,7 @@ use crate::zone::{Empty, Zone};
 use evidence::case::Case;
 
 /// Stands for a blank.
-const BLANK: i32 = i32::MIN;
+pub const BLANK: i32 = i32::MIN;
 
 /// The powers that are compared.
 const POWERS: usize = 64;
@@ -26,10 +26,9 @@ impl<const M: usize> Table<M> {
         Table(times)
     }
 
-    /// A(i, j), if there is one.
-    pub fn time(&self, i: usize, j: usize) -> Option<i32> {
-        let time = self.0[i][j];
-        (time != BLANK).then_some(time)
+    /// A(i, j) for every j, `BLANK` where there is none.
+    pub fn row(&self, i: usize) -> &[i32; M] {
+        &self.0[i]
     }
 
     /// The columns that hold a time in row i.

@@ -7,6 +7,7 @@ use crate::zone::{Empty, Zone};
 use evidence::archive::{Answer, Fault, Verdict};
 use evidence::case::{pair, Case, Pattern};
 use evidence::selections::{only_differences, without_start};
+use std::ops::RangeInclusive;
 
 /// Calls a function that is generic in M for a number of departures.
 #[macro_export]
@@ -125,6 +126,93 @@ fn decided<const M: usize>(
     })
 }
 
+/// By how many seconds the times of each zone of a list are later than those of
+/// the list before it, if they differ in nothing else.
+fn delay<const M: usize>(before: &[Zone<M>], list: &[Zone<M>]) -> Option<i32> {
+    let mut pairs = before.iter().zip(list);
+    let seconds = pairs.clone().find_map(|(one, next)| next.delay_from(one));
+    let seconds = seconds.unwrap_or(0);
+    let delayed = |(one, next): (&Zone<M>, &Zone<M>)| {
+        let mut one = *one;
+        one.delay(seconds);
+        one == *next
+    };
+    (before.len() == list.len() && pairs.all(delayed)).then_some(seconds)
+}
+
+/// What these cycles decide where each list is the one before it, later by so many
+/// seconds. With 0 all lists are the same, and none decides anything.
+fn repeated<const M: usize>(
+    list: &mut [Zone<M>],
+    seconds: i32,
+    start: &[(usize, usize, i32)],
+    mut cycles: RangeInclusive<usize>,
+) -> Option<Answer> {
+    if seconds == 0 {
+        return None;
+    }
+    cycles.find_map(|k| {
+        list.iter_mut().for_each(|zone| zone.delay(seconds));
+        decided(list, start, k)
+    })
+}
+
+/// The present list and the one before it.
+struct Lists<const M: usize> {
+    list: Kept<M>,
+    before: Kept<M>,
+}
+
+impl<const M: usize> Lists<M> {
+    /// List 0 is the target.
+    fn new(capacity: usize, target: &[(usize, usize, i32)]) -> Lists<M> {
+        let [mut list, before] = [Kept::new(capacity), Kept::new(capacity)];
+        let built = list.zones.add(&Zone::everything()).meet(target);
+        list.zones.settle(built);
+        Lists { list, before }
+    }
+
+    fn is_empty(&self) -> bool {
+        self.list.zones.all().is_empty()
+    }
+
+    /// Makes the next list.
+    fn advance(&mut self, table: &Table<M>, lister: &mut impl Lister<M>) -> Result<(), Stop> {
+        std::mem::swap(&mut self.list, &mut self.before);
+        self.list.zones.clear();
+        let mut zones = self.before.zones.all().iter();
+        zones.try_for_each(|zone| lister.before(table, zone, &mut self.list))
+    }
+
+    /// What the cycles up to the last decide, if anything.
+    fn decide(
+        &mut self,
+        table: &Table<M>,
+        start: &[(usize, usize, i32)],
+        last: usize,
+        lister: &mut impl Lister<M>,
+    ) -> Result<Option<Answer>, Stop> {
+        for k in 1..=last {
+            if self.is_empty() {
+                break;
+            }
+            match self.advance(table, lister) {
+                Err(Stop::Full) => return Ok(Some(full(k))),
+                made => made?,
+            }
+            let answer = decided(self.list.zones.all(), start, k);
+            if answer.is_some() {
+                return Ok(answer);
+            }
+            if let Some(seconds) = delay(self.before.zones.all(), self.list.zones.all()) {
+                let list = self.list.zones.all_mut();
+                return Ok(repeated(list, seconds, start, k + 1..=last));
+            }
+        }
+        Ok(None)
+    }
+}
+
 /// The whole search on a case within the limits, and how many comparisons of
 /// two sets it made, or none if it takes more steps than allowed.
 pub fn search<const M: usize>(
@@ -135,32 +223,12 @@ pub fn search<const M: usize>(
     let table = Table::new(case);
     let start = stated(case.n, &case.start);
     let (last, otherwise) = searched(case, &table);
-    let target = stated(case.n, &case.target);
-    let [mut list, mut next] = [Kept::new(capacity), Kept::new(capacity)];
-    let built = list.zones.add(&Zone::everything()).meet(&target);
-    list.zones.settle(built);
-    let mut answer = None;
-    for k in 1..=last {
-        if list.zones.all().is_empty() {
-            break;
-        }
-        let mut zones = list.zones.all().iter();
-        answer = match zones.try_for_each(|zone| lister.before(&table, zone, &mut next)) {
-            Err(Stop::Full) => Some(full(k)),
-            Err(Stop::Steps) => return None,
-            Ok(()) => decided(next.zones.all(), &start, k),
-        };
-        if answer.is_some() {
-            break;
-        }
-        std::mem::swap(&mut list, &mut next);
-        next.zones.clear();
-    }
-    let end = if list.zones.all().is_empty() {
-        Verdict::Never
-    } else {
-        otherwise
+    let mut lists = Lists::new(capacity, &stated(case.n, &case.target));
+    let answer = lists.decide(&table, &start, last, lister).ok()?;
+    let end = match lists.is_empty() {
+        true => Verdict::Never,
+        false => otherwise,
     };
-    let compared = list.zones.compared + next.zones.compared;
+    let compared = lists.list.zones.compared + lists.before.zones.compared;
     Some((answer.unwrap_or(without_start(end)), compared))
 }

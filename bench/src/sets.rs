@@ -64,4 +64,8 @@ impl<const M: usize> Sets<M> {
     pub fn all(&self) -> &[Zone<M>] {
         &self.sets
     }
+
+    pub fn all_mut(&mut self) -> &mut [Zone<M>] {
+        &mut self.sets
+    }
 }

@@ -2,24 +2,54 @@
 //! by chance, kept unless they make the search cheaper. What counts is what
 //! plain Rust counts, so a search finds the same on every machine.
 
-use crate::measure::measure;
+use crate::compare::turn;
+use crate::measure::{library, plain};
 use crate::rows::{self, Cost};
 use crate::table::words;
 use crate::{hex, of_hex};
 use evidence::case::{most, pair, Case, Pattern};
 use evidence::random::Random;
 use evidence::text::capacity;
+use std::time::Instant;
 
 const N: usize = 7;
 
 /// Cycles searched while looking; what is found is then searched for 64.
-const CYCLES: usize = 12;
+const CYCLES: usize = 8;
 
-/// Comparisons of sets that take about as long as a change of one.
+/// Comparisons or tests of sets that take about as long as a change of one.
 const WEIGHT: u64 = 12;
 
+/// Kinds of cases that a search begins with.
+const KINDS: usize = 4;
+
 fn weight(cost: Cost) -> u64 {
-    WEIGHT * cost.changes + cost.compared
+    WEIGHT * cost.changes + cost.compared + cost.tests
+}
+
+/// How far a search goes from each beginning: so many changes, or so many seconds.
+#[derive(Clone, Copy)]
+enum Span {
+    Changes(usize),
+    Seconds(f64),
+}
+
+impl Span {
+    /// The share of a beginning in a number of changes, or of seconds if an s stands
+    /// behind it.
+    fn of(text: &str) -> Result<Span, String> {
+        match text.strip_suffix('s') {
+            Some(seconds) => Ok(Span::Seconds(number::<f64>(seconds)? / KINDS as f64)),
+            None => Ok(Span::Changes(number::<usize>(text)? / KINDS)),
+        }
+    }
+
+    fn lasts(self, changes: usize, begin: Instant) -> bool {
+        match self {
+            Span::Changes(most) => changes < most,
+            Span::Seconds(most) => begin.elapsed().as_secs_f64() < most,
+        }
+    }
 }
 
 /// Both ways, so that the difference is a number.
@@ -45,6 +75,23 @@ fn even(random: &mut Random, size: i64) -> Case {
     }
     for i in 1..=N {
         fix(&mut case.target, i, 0, random.between(0, size));
+    }
+    case
+}
+
+/// Two blocks of departures, times of 0 from each to the other and less within, and
+/// a target of one point, the blocks apart: the lists take turns, so that none is
+/// the one before it moved.
+fn blocks(random: &mut Random) -> Case {
+    let cut = 2 + random.below(2);
+    let (within, apart) = random.one_of(&[(-1, 1), (-100, 1), (-100, 100)]);
+    let mut case = without_start();
+    for (place, time) in case.times[..N * N].iter_mut().enumerate() {
+        let same = (place / N < cut) == (place % N < cut);
+        *time = Some(if same { within } else { 0 });
+    }
+    for i in 1..=N {
+        fix(&mut case.target, i, 0, if i <= cut { 0 } else { apart });
     }
     case
 }
@@ -123,11 +170,14 @@ fn changed(random: &mut Random, case: &Case) -> Case {
 }
 
 /// The slowest case met from one beginning, and its weight.
-fn climb(random: &mut Random, beginning: Case, steps: usize) -> (u64, Case) {
+fn climb(random: &mut Random, beginning: Case, span: Span) -> (u64, Case) {
     let weigh = |case: &Case| weight(rows::verdict(case, capacity(N)).1);
+    let begin = Instant::now();
     let mut case = beginning;
     let mut most = weigh(&case);
-    for _ in 0..steps {
+    let mut changes = 0;
+    while span.lasts(changes, begin) {
+        changes += 1;
         let next = changed(random, &case);
         let weight = weigh(&next);
         if weight >= most {
@@ -140,13 +190,16 @@ fn climb(random: &mut Random, beginning: Case, steps: usize) -> (u64, Case) {
 /// Prints a case, what it costs and how long it takes.
 fn print(case: &Case) {
     println!("{}", hex(case));
-    let (_, cost) = rows::verdict(case, capacity(case.n));
+    let (answer, cost) = rows::verdict(case, capacity(case.n));
     println!("{cost:?}");
-    let measured = measure(case, 0);
-    let (library, rows) = (words(measured.library), words(measured.rows));
+    let (by_library, found) = turn(library(case));
+    let (by_plain, _) = turn(plain(case));
+    assert_eq!(found, Some(answer), "two answers");
     println!(
-        "{:?}: library {library}, plain Rust {rows}",
-        measured.verdict
+        "{:?}: library {}, plain Rust {}",
+        answer.verdict,
+        words(by_library),
+        words(by_plain)
     );
 }
 
@@ -165,19 +218,20 @@ fn slower(found: Option<(u64, Case)>, mut case: Case) -> Option<(u64, Case)> {
     }
 }
 
-/// Looks for a slow case from four beginnings and prints it.
-pub fn search(seed: &str, steps: &str) -> Result<(), String> {
+/// Looks for a slow case from beginnings of each kind and prints it.
+pub fn search(seed: &str, span: &str) -> Result<(), String> {
     let mut random = Random::new(number(seed)?);
-    let steps: usize = number(steps)?;
+    let span = Span::of(span)?;
     let mut found = None;
-    for kind in 0..4 {
+    for kind in 0..KINDS {
         let beginning = match kind {
             0 => even(&mut random, 0),
             1 => even(&mut random, 2),
+            2 => blocks(&mut random),
             _ => led(&mut random),
         };
         found = slower(found, beginning);
-        let (_, case) = climb(&mut random, beginning, steps / 4);
+        let (_, case) = climb(&mut random, beginning, span);
         found = slower(found, case);
     }
     if let Some((_, case)) = found {

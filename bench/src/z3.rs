@@ -76,6 +76,15 @@ fn compare(case: &Case, folder: &Path) -> io::Result<(f64, f64)> {
     Ok((median(&ours), median(&theirs)))
 }
 
+/// One line of the table.
+fn line(case: &Case, folder: &Path) -> io::Result<String> {
+    let (ours, theirs) = compare(case, folder)?;
+    let said = if met(case) { "met" } else { "not met" };
+    let times = format!("{} | {}", words(ours), words(theirs));
+    let ratio = theirs / ours;
+    Ok(format!("| {said} | {} | {times} | {ratio:.1} |", case.n))
+}
+
 /// Prints the comparison, or that a program for it is missing.
 pub fn print() -> io::Result<()> {
     let Some(version) = version() else {
@@ -87,19 +96,12 @@ pub fn print() -> io::Result<()> {
         return Ok(());
     }
     println!("\n{version}");
-    println!("\n| 7 departures, no blank, one cycle | program | z3 | z3 / program |");
-    println!("|---|---|---|---|");
+    println!("\n| no blank, one cycle | departures | program | z3 | z3 / program |");
+    println!("|---|---|---|---|---|");
     let folder = env::temp_dir().join(format!("bench-{}", std::process::id()));
     fs::create_dir(&folder)?;
-    for case in one_cycle() {
-        let (ours, theirs) = compare(&case, &folder)?;
-        let said = if met(&case) { "met" } else { "not met" };
-        let ratio = theirs / ours;
-        println!(
-            "| {said} | {} | {} | {ratio:.1} |",
-            words(ours),
-            words(theirs)
-        );
+    for case in [7, 15].into_iter().flat_map(one_cycle) {
+        println!("{}", line(&case, &folder)?);
     }
     fs::remove_dir_all(&folder)
 }

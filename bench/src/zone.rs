@@ -39,6 +39,11 @@ impl<const M: usize> Zone<M> {
         (bound != NONE).then_some(bound)
     }
 
+    /// The greatest x(i) - x(j) for every j, `NONE` where there is none.
+    pub fn row(&self, i: usize) -> &[i32; M] {
+        &self.0[i]
+    }
+
     /// One more constraint, x(a) - x(b) <= c, in place. Says whether any bound
     /// changed. Row b and column a do not change, since the set is not empty.
     pub fn constrain(&mut self, a: usize, b: usize, c: i32) -> Result<bool, Empty> {
@@ -70,6 +75,28 @@ impl<const M: usize> Zone<M> {
             self.constrain(i, j, bound)?;
         }
         Ok(())
+    }
+
+    /// Moves the times by so many seconds, in place: what bounds differences stays.
+    pub fn delay(&mut self, seconds: i32) {
+        for i in 1..M {
+            if self.0[i][0] != NONE {
+                self.0[i][0] += seconds;
+            }
+            if self.0[0][i] != NONE {
+                self.0[0][i] -= seconds;
+            }
+        }
+    }
+
+    /// By how many seconds the times are later than those of another set, as the
+    /// first bound against the clock that both have tells it.
+    pub fn delay_from(&self, other: &Zone<M>) -> Option<i32> {
+        let more = |one: Option<i32>, other: Option<i32>| Some(one? - other?);
+        (1..M).find_map(|i| {
+            let above = more(self.bound(i, 0), other.bound(i, 0));
+            above.or_else(|| more(other.bound(0, i), self.bound(0, i)))
+        })
     }
 
     /// The start picked, and the set brought down to it: for each departure in

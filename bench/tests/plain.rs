@@ -3,7 +3,7 @@
 
 use bench::{families, hex, one_by_one, packed, rows};
 use evidence::archive;
-use evidence::case::Case;
+use evidence::case::{Case, DEPARTURES};
 use evidence::random::wide::wide_trial;
 use evidence::random::{crowded_trial, dense_trial, trial, Random, Trial};
 use evidence::selections::search;
@@ -65,18 +65,47 @@ fn on_long_lists() {
     });
 }
 
-/// The families' cases, some of which meet more sets at a row than are
-/// remembered: dropping sets changes no answer. Without dropping, the table of
-/// zeros would take too long.
+/// A table with hardly any different times, so that lists soon repeat, mostly with
+/// the clock moved, and a start on the clock that is met late, if at all.
+fn repeating_trial(random: &mut Random) -> Trial {
+    let n = random.between(2, 4) as usize;
+    let mut case = Case::empty(n, 64);
+    let time = random.between(-2, 2);
+    let chance = random.below(3);
+    case.times[..n * n].fill_with(|| Some(time + i64::from(random.chance(chance, 9))));
+    let slack = random.between(0, 1);
+    case.target = families::around(n, &[0; DEPARTURES], slack, random.chance(5, 6));
+    let at = random.between(-40, 40);
+    match random.below(2) {
+        0 => families::window(&mut case.start, n, (1, 0), at, at + slack),
+        _ => case.start = families::around(n, &[at; DEPARTURES], slack, true),
+    }
+    Trial {
+        case,
+        capacity: 16,
+        near: [0; DEPARTURES],
+        parts: 1,
+    }
+}
+
+#[test]
+fn on_lists_that_repeat() {
+    compare_all(0..600, 10, repeating_trial);
+}
+
+/// The families' cases with all sets remembered, with few, so that more are met at
+/// a row than that, and with none: dropping sets changes no answer. Without
+/// dropping, the table of zeros would take too long.
 #[test]
 fn with_and_without_dropping() {
     let mut forgotten = 0;
     for family in families::all() {
         let zeros = |case: &Case| case.times[..case.n * case.n] == [Some(0); 49];
         for case in family.cases.iter().filter(|case| !zeros(case)) {
-            let (with, cost) = rows::verdict(case, capacity(case.n));
-            let (without, _) = rows::without_dropping(case, capacity(case.n));
-            assert_eq!(with, without, "{}", hex(case));
+            let (with, _) = rows::verdict(case, capacity(case.n));
+            let (few, cost) = rows::remembering(case, capacity(case.n), 4);
+            let (without, _) = rows::remembering(case, capacity(case.n), 0);
+            assert_eq!([few, without], [with; 2], "{}", hex(case));
             forgotten += cost.forgotten;
         }
     }

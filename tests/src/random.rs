@@ -617,6 +617,36 @@ pub fn crowded_trial(random: &mut Random, n: usize, horizon: usize) -> Trial {
     }
 }
 
+/// A case whose lists move with the clock: all times are one number, and start
+/// and target bound every departure against the clock, the start so many cycles
+/// earlier, or a second beside that.
+pub fn drifting_trial(random: &mut Random, n: usize) -> Trial {
+    let drift = random.between(-9, 9);
+    let mut case = Case::empty(n, 64);
+    for place in 0..n * n {
+        if place % (n + 1) == 0 || random.chance(2, 3) {
+            case.times[place] = Some(drift);
+        }
+    }
+    let first = random.one_of(&[0, 0, 1]) - drift * random.between(1, 64);
+    let slack = random.one_of(&[0, 1, 5]);
+    for i in 1..=n {
+        case.target[pair(n, i, 0)] = Some(most(slack));
+        case.target[pair(n, 0, i)] = Some(most(0));
+        case.start[pair(n, i, 0)] = Some(most(first + slack));
+        case.start[pair(n, 0, i)] = Some(most(-first));
+    }
+    if random.chance(1, 3) {
+        mark(random, &mut case);
+    }
+    Trial {
+        case,
+        capacity: 128,
+        near: [first; DEPARTURES],
+        parts: 1,
+    }
+}
+
 /// A second capacity for a case, from the lengths of its lists: the longest
 /// list just fits or just does not.
 pub fn sharper(random: &mut Random, lengths: &[usize]) -> Option<usize> {

@@ -7,8 +7,8 @@ use evidence::enumeration::{image, in_parts, leads};
 use evidence::faults;
 use evidence::random::wide::{strict_wide_trial, wide_trial};
 use evidence::random::{
-    crowded_trial, dense_trial, sharper, strict_dense_trial, strict_trial, trial, Draw, Random,
-    Trial,
+    crowded_trial, dense_trial, drifting_trial, sharper, strict_dense_trial, strict_trial, trial,
+    Draw, Random, Trial,
 };
 use evidence::selections::{search, Outcome};
 use std::thread;
@@ -170,6 +170,21 @@ fn long_lists() {
     println!("long lists: {counts:?}");
     let [_, _, clear, _, _, full] = counts;
     assert!(clear.min(full) >= 10, "{counts:?}");
+}
+
+/// Lists that are the ones before them with the clock moved, or the same.
+#[test]
+fn lists_that_move_with_the_clock() {
+    let mut counts = [0; 6];
+    for seed in 10_000_000..10_000_600 {
+        let mut random = Random::new(seed);
+        let n = 1 + random.below(4);
+        let trial = drifting_trial(&mut random, n);
+        check(seed, &mut random, &trial, &mut counts);
+    }
+    println!("moving lists: {counts:?}");
+    let [_, later, clear, ..] = counts;
+    assert!(later.min(clear) >= 100, "{counts:?}");
 }
 
 /// Compares random cases in several threads. Every outcome makes up at least one

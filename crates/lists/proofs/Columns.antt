@@ -22,6 +22,8 @@ use Rattle.model.proofs.Fitted.{fitting-front, fitting-rest}
 use Rattle.memory.specs.Numbers.{boundsIn, timesIn, Limit}
 use Rattle.zones.specs.Conditions.{RowReady}
 use Rattle.zones.proofs.Standing.{closed-in}
+use Rattle.ahead.specs.Outlook.{Outlook}
+use Rattle.ahead.proofs.Keeping.{next-kept}
 use Rattle.lists.specs.Selecting.{withColumn, Selecting, Passed}
 
 -- ---- blank columns passed over
@@ -77,6 +79,10 @@ module _ {n : ℕ} {times zone : List ℤ} {part : Matrix} {cols : List ℕ} {i 
     fitting = rw e (fitting-front (rowConstraints n a d cols i s) _ (fitting-with (below .0) (below .1)));
   }
 
+  -- what can be looked ahead from
+  pub outlook : Outlook n a d part cols i
+  outlook = record { closed = sel .backward .closed; before = sel .before; kept = sel .kept }
+
   module _ {q : Matrix} (left : withColumn n a d part cols i s ≡ some q) where
     pub next-before : Before n a q (cols ++ (s ∷ [])) (suc i)
     next-before =
@@ -101,5 +107,6 @@ module _ {n : ℕ} {times zone : List ℤ} {part : Matrix} {cols : List ℕ} {i 
       backward = sel .backward;
       to-end = omega arith;
       before = next-before;
+      kept = next-kept outlook row c left next-before;
       fitting = λ rest r. rw left at (fitting-rest (rowConstraints n a d cols i s) _ (fitting-with rest r));
     }

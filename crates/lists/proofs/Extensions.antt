@@ -2,13 +2,20 @@
 use Prim.Native.Nat.{ℕ, zero, suc, _+_, _-_, _≤_, _<_}
 use native.Mathlib.Omega.{arith}
 use native.Mathlib.Numerals.{add-one}
-use mathlib.Core.Path.{_≡_, refl, ap, fun-ext, _∙_}
+use mathlib.Core.Path.{_≡_, refl, sym, ap, fun-ext, _∙_}
 use mathlib.Core.List.{List, [], _∷_, _++_, map, map-append, map-map, flatMap, foldl, foldl-append}
 use mathlib.Core.Option.{Option, none, some}
+use lib.ListN.{length}
+use lib.Seq.{getD-at}
 use Rattle.model.specs.Matrix.{Matrix, Constraint, constrain}
 use Rattle.model.specs.Network.{Time, isTime}
 use Rattle.model.specs.Search.{columns, selections, rowConstraints, rowsConstraints, keep}
-use Rattle.model.specs.Conditions.{Column}
+use Rattle.model.specs.Lists.{Every, done, both}
+use Rattle.model.specs.Conditions.{Column, Selection, choose}
+use Rattle.model.proofs.Listed.{every-map}
+use Rattle.model.proofs.Selections.{selections-sound}
+use Rattle.zones.specs.Inner.{choice}
+use Rattle.ahead.specs.Outlook.{Lost}
 use Rattle.lists.specs.Selecting.{extensions, Passed}
 use Rattle.lists.specs.Inner.{columnSets}
 
@@ -18,10 +25,10 @@ unfolding constrain
 constrain-none m [] = refl
 constrain-none m (k ∷ ks) = constrain-none m ks
 
-keep-none : {X : Type 0} (f : X → Option Matrix) → ((x : X) → f x ≡ none) → (kept : List Matrix) (xs : List X) → foldl keep kept (map f xs) ≡ kept
+keep-none : {X : Type 0} (f : X → Option Matrix) (kept : List Matrix) {xs : List X} → Every (λ x. f x ≡ none) xs → foldl keep kept (map f xs) ≡ kept
 unfolding keep
-keep-none f h kept [] = refl
-keep-none f h kept (x ∷ xs) = ap (λ (o : Option Matrix). foldl keep (keep kept o) (map f xs)) (h x) ∙ keep-none f h kept xs
+keep-none f kept done = refl
+keep-none f kept (both {xs} h hs) = ap (λ (o : Option Matrix). foldl keep (keep kept o) (map f xs)) h ∙ keep-none f kept hs
 
 map-flatMap : {X Y Z : Type 0} (f : Y → Z) (g : X → List Y) (xs : List X) → map f (flatMap g xs) ≡ flatMap (λ x. map f (g x)) xs
 unfolding flatMap
@@ -76,9 +83,23 @@ module _ (n : ℕ) (a : List Time) (d : Matrix) where
   unfolding extensions selections rowsConstraints
   extensions-end part cols i h = let e : suc n - i ≡ 0 = omega arith in rw e
 
-  -- of an empty set nothing is kept
-  pub extensions-none : (cols : List ℕ) (i r : ℕ) (kept : List Matrix) → foldl keep kept (extensions n a d none cols i r) ≡ kept
+  -- of a set of which no selection leaves anything, nothing is kept; an empty one is such a set
+  pub nothing-kept : (part : Option Matrix) (cols : List ℕ) (i r : ℕ) (kept : List Matrix)
+      → ((rest : List ℕ) → Selection n a r i rest → foldl (constrain (suc n)) part (rowsConstraints n a d cols i rest) ≡ none)
+      → foldl keep kept (extensions n a d part cols i r) ≡ kept
   unfolding extensions
-  extensions-none cols i r kept =
-      keep-none (λ rest. foldl (constrain (suc n)) none (rowsConstraints n a d cols i rest))
-      (λ rest. constrain-none (suc n) (rowsConstraints n a d cols i rest)) kept (selections n a r i)
+  nothing-kept part cols i r kept h =
+      keep-none (λ rest. foldl (constrain (suc n)) part (rowsConstraints n a d cols i rest)) kept (every-map h (selections-sound n a r i))
+
+  pub extensions-none : (cols : List ℕ) (i r : ℕ) (kept : List Matrix) → foldl keep kept (extensions n a d none cols i r) ≡ kept
+  extensions-none cols i r kept = nothing-kept none cols i r kept (λ rest q. constrain-none (suc n) (rowsConstraints n a d cols i rest))
+
+  -- those of one column
+  pub columns-none : (part : Matrix) (cols : List ℕ) (i s : ℕ) (kept : List Matrix) → length cols ≡ i → i ≤ n → Column n a i s
+      → Lost n a d part cols i (choice i s) → foldl keep kept (columnSets n a d part cols i s) ≡ kept
+  unfolding columnSets rowsConstraints
+  columns-none part cols i s kept long h c lost =
+      nothing-kept (foldl (constrain (suc n)) (some part) (rowConstraints n a d cols i s)) (cols ++ (s ∷ [])) (suc i) (suc n - suc i) kept (λ rest q.
+      let e : suc n - i ≡ suc (suc n - suc i) = omega arith in
+      sym (foldl-append (constrain (suc n)) (some part) (rowConstraints n a d cols i s) (rowsConstraints n a d (cols ++ (s ∷ [])) (suc i) rest))
+      ∙ lost (s ∷ rest) (rw e (choose c q)) (getD-at cols s rest 0 i long))

@@ -48,7 +48,7 @@ module _ (n count : ℕ) (list₀ times zone seen₀ : List ℤ) (counts₀ cols
     pub rest : whole ≡ foldl keep zs (later s)
 
 module _ {n capacity count : ℕ} {list₀ times zone seen₀ : List ℤ} {counts₀ cols₀ : List ℕ} {i : ℕ}
-    (ready : SelectReady n capacity count list₀ times zone seen₀ counts₀ cols₀ i) where
+    {table : List ℤ} (ready : SelectReady n capacity count list₀ times zone table seen₀ counts₀ cols₀ i) where
   abbrev At : List ℤ → List ℤ → List ℕ → List ℕ → Built → ℕ → Type 0
   At list seen counts cols built s = Going n count list₀ times zone seen₀ counts₀ cols₀ i capacity list seen counts cols built s
 
@@ -90,10 +90,11 @@ module _ {n capacity count : ℕ} {list₀ times zone seen₀ : List ℤ} {count
     list-is = held-list (g .made .held) (g .more) .1
 
     -- the sets of the next column can be put to it
-    pub going-ready : s ≤ n → TakeReady n capacity (built .count) list times zone seen counts cols i s
+    pub going-ready : s ≤ n → TakeReady n capacity (built .count) list times zone table seen counts cols i s
     going-ready h = record {
       select = record {
         room = held-room (g .made .held) (g .more) (omega (arith, ready .room .long, g .list-size));
+        tabled = ready .tabled;
         ready = still-underway (g .made .rows) (ready .ready) (g .made .noted .tables) (g .cols-size);
         noted = rw list-is (g .made .noted);
       };

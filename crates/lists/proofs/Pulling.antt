@@ -112,7 +112,12 @@ module _ {n capacity count source goal : ℕ} {times work₀ : List ℤ} {seen :
       source-one e =
           let z : 0 + k ≡ k = omega arith in
           let s = b .sources in
-          record { table = s .table; regular = s .regular; each = rw (e, ← z) (both (at-tabulate count 0 _ (s .each) k inside) done) }
+          record {
+            table = s .table;
+            regular = s .regular;
+            closed = rw (e, ← z) (both (at-tabulate count 0 _ (s .closed) k inside) done);
+            each = rw (e, ← z) (both (at-tabulate count 0 _ (s .each) k inside) done);
+          }
 
       -- zone k, pulled back
       module _ (out : List ℤ) {built′ : Built} (same : length out ≡ length (drop goal work))

@@ -21,6 +21,7 @@ use Rattle.memory.specs.Numbers.{boundsIn, timesIn}
 use Rattle.memory.specs.Conditions.{ZoneIn}
 use Rattle.zones.specs.Conditions.{CommonReady}
 use Rattle.zones.proofs.Standing.{closed-in}
+use Rattle.ahead.proofs.Keeping.{first-kept}
 use Rattle.lists.specs.Lists.{seenSize, zoneAt, listIn, Sources, Joins, Meets}
 use Rattle.lists.specs.Selecting.{extensions, Selecting}
 use Rattle.lists.specs.Met.{freeAt, Tables, Noted}
@@ -48,7 +49,7 @@ module _ {n : ℕ} {times zone : List ℤ} (s : Sources n times (boundsIn zone �
 
   first-set : Selecting n times zone (everything (suc n)) (take 1 rows) 1
   first-set = record {
-    backward = record { table = s .table; regular = s .regular; source = z };
+    backward = record { table = s .table; regular = s .regular; source = z; closed = of-both (s .closed) .0 };
     to-end = omega arith;
     before = record {
       closed-set = everything-closed (suc n);
@@ -57,6 +58,7 @@ module _ {n : ℕ} {times zone : List ℤ} (s : Sources n times (boundsIn zone �
       columns = λ l h. let e : l ≡ 0 = omega arith in rw e clock;
       imaged = λ parts p x m l h. let e : l ≡ 0 = omega arith in rw e (clock-imaged n (map (scaleTime parts) (timesIn times)) x);
     };
+    kept = first-kept n (timesIn times) (of-both (s .closed) .0);
     fitting = λ rest q. let e : suc n - 1 ≡ n = omega arith in of-both (s .each) .0 rest (rw e at q);
   }
 

@@ -17,13 +17,18 @@ use Rattle.memory.specs.Numbers.{boundsIn, timesIn}
 use Rattle.memory.proofs.Leaving.{left-none, left-some}
 use Rattle.lists.specs.declared.Built.{Built}
 use Rattle.lists.specs.Lists.{zoneAt, listIn}
-use Rattle.lists.specs.Selecting.{extensions, withColumn}
+use Rattle.starts.specs.Numbers as Starts
+use Rattle.zones.specs.Inner.{choice}
+use Rattle.ahead.specs.Needs.{Unfit, Barred}
+use Rattle.ahead.specs.Outlook.{Outlook}
+use Rattle.ahead.proofs.Needed.{lost-unfit, shut-barred}
+use Rattle.lists.specs.Selecting.{extensions, withColumn, Selecting}
 use Rattle.lists.specs.Met.{freeAt, metIn, unmet, notedIn, Covered, Noted}
-use Rattle.lists.specs.Inner.{PlacedAt, parentIn, Underway, leftOf, columnSets, PutLast, RowsFrom, SelectReady, TakeReady, Selected}
+use Rattle.lists.specs.Inner.{PlacedAt, parentIn, Underway, leftOf, columnSets, PutLast, RowsFrom, SelectReady, TakeReady, Selected, FitReady, ShutReady}
 use Rattle.lists.proofs.Held.{held-as-is}
-use Rattle.lists.proofs.Columns.{next-before, next-selecting}
-use Rattle.lists.proofs.Extensions.{extensions-end}
-use Rattle.lists.proofs.Rows.{rows-then, rows-fewer, rows-placed, rows-picked, rows-noted, free-same}
+use Rattle.lists.proofs.Columns.{outlook, next-before, next-selecting}
+use Rattle.lists.proofs.Extensions.{extensions-end, nothing-kept, columns-none}
+use Rattle.lists.proofs.Rows.{rows-same, rows-then, rows-fewer, rows-placed, rows-picked, rows-noted, free-same}
 use Rattle.lists.proofs.met.Seen.{unmet-some}
 use Rattle.lists.proofs.met.Growing.{departures}
 use Rattle.lists.proofs.met.Covered.{covered-new, noted-on, noted-placed, noted-more, nothing-new}
@@ -38,8 +43,8 @@ last-sets : (n : ℕ) (a : List Time) (d part : Matrix) (cols : List ℕ) (s : �
 unfolding columnSets
 last-sets n a d part cols s = extensions-end n a d (withColumn n a d part cols n s) (cols ++ (s ∷ [])) (suc n) (omega arith)
 
-pub taken-last : {n capacity count : ℕ} {list times zone seen : List ℤ} {counts cols : List ℕ} {s : ℕ} {r : Built} {list′ seen′ : List ℤ}
-    → TakeReady n capacity count list times zone seen counts cols n s
+pub taken-last : {n capacity count : ℕ} {list times zone table seen : List ℤ} {counts cols : List ℕ} {s : ℕ} {r : Built} {list′ seen′ : List ℤ}
+    → TakeReady n capacity count list times zone table seen counts cols n s
     → PutLast n capacity count (leftOf n times zone seen counts cols n s) list seen counts r list′ seen′ → length seen′ ≡ length seen
     → Selected n capacity n times zone (taken n count list times zone seen counts cols n s) list seen counts cols r list′ seen′ counts cols
 taken-last {n} {times} {zone} {seen} {counts} {cols} {s} t p long =
@@ -50,9 +55,35 @@ taken-last {n} {times} {zone} {seen} {counts} {cols} {s} t p long =
       rows = rows-placed (omega arith) (p .elsewhere);
     }
 
+-- ---- a column that does not fit
+module _ {n capacity count : ℕ} {list times zone table seen : List ℤ} {counts cols : List ℕ} {i s : ℕ}
+    (t : TakeReady n capacity count list times zone table seen counts cols i s) where
+  pub fit-ready : FitReady n seen table times counts i s
+  fit-ready =
+      let u = t .select .ready in
+      record {
+        tables = u .tables;
+        times-in = u .selecting .backward .table;
+        table-in = t .select .tabled .inside;
+        row = u .row;
+        from-one = u .selecting .before .from-one;
+        column = t .column;
+      }
+
+  pub taken-unfit : Unfit n (timesIn times) (Starts.boundsIn table) (parentIn n seen counts i) (choice i s)
+      → Selected n capacity i times zone (taken n count list times zone seen counts cols i s) list seen counts cols
+      (record { count = count; full = false }) list seen counts cols
+  taken-unfit unfit =
+      let u = t .select .ready in
+      let sel = u .selecting in
+      let lost = lost-unfit (outlook sel (u .row) (t .column)) {c = choice i s} (u .row) (t .column .to-n) (rw (t .select .tabled .is) at unfit) in
+      rw (columns-none n (timesIn times) (boundsIn zone) (parentIn n seen counts i) (take i cols) i s (listIn (zoneSize n) count list)
+      (sel .before .long) (u .row) (t .column) lost)
+      (record { held = held-as-is (t .select .room); noted = t .select .noted; rows = rows-same })
+
 -- ---- a row before it: the set is built at the free place
-module _ {n capacity count : ℕ} {list times zone seen : List ℤ} {counts cols : List ℕ} {i s : ℕ}
-    (t : TakeReady n capacity count list times zone seen counts cols i s) {seen′ : List ℤ} (long : length seen′ ≡ length seen) {r : Bool}
+module _ {n capacity count : ℕ} {list times zone table seen : List ℤ} {counts cols : List ℕ} {i s : ℕ}
+    (t : TakeReady n capacity count list times zone table seen counts cols i s) {seen′ : List ℤ} (long : length seen′ ≡ length seen) {r : Bool}
     (p : PlacedAt (zoneSize n) (freeAt n counts i) (unmet (metIn n seen counts i) (leftOf n times zone seen counts cols i s)) seen r seen′) where
   abbrev a : List Time
   a = timesIn times
@@ -100,14 +131,18 @@ module _ {n capacity count : ℕ} {list times zone seen : List ℤ} {counts cols
     here : i + 1 - 1 ≡ i
     here = omega arith
 
-    pub child-ready : (i ≡ n → ⊥) → SelectReady n capacity count list times zone seen′ counts cols′ (i + 1)
+    next : Selecting n times zone (zoneAt (zoneSize n) seen′ (freeAt n counts i)) (take i cols ++ (s ∷ [])) (suc i)
+    next = next-selecting (u .selecting) (u .row) (t .column) left
+
+    pub child-ready : (i ≡ n → ⊥) → SelectReady n capacity count list times zone table seen′ counts cols′ (i + 1)
     child-ready other = record {
       room = t .select .room;
+      tabled = t .select .tabled;
       ready = record {
         tables = still-noted .tables;
         cols-size = length-set cols i s ∙ u .cols-size;
         row = omega (arith, u .row);
-        selecting = rw (cols-more, here, add-one i) (next-selecting (u .selecting) (u .row) (t .column) left);
+        selecting = rw (cols-more, here, add-one i) next;
       };
       noted = still-noted;
     }
@@ -118,6 +153,32 @@ module _ {n capacity count : ℕ} {list times zone seen : List ℤ} {counts cols
     same-sets : below ≡ taken n count list times zone seen counts cols i s
     unfolding columnSets
     same-sets = rw (cols-more, here, add-one i, left)
+
+    -- nothing is left of it, whatever they pick
+    cols-next : take (suc i) cols′ ≡ take i cols ++ (s ∷ [])
+    cols-next = rw (add-one i) at cols-more
+
+    pub shut-ready : ShutReady n seen′ table times counts cols′ i
+    shut-ready = record {
+      tables = still-noted .tables;
+      times-in = u .selecting .backward .table;
+      table-in = t .select .tabled .inside;
+      row = u .row;
+      long = omega (arith, row, u .cols-size, length-set cols i s);
+      columns = rw cols-next (next .before .columns);
+    }
+
+    pub taken-shut : Barred n a (Starts.boundsIn table) (zoneAt (zoneSize n) seen′ (freeAt n counts i)) (take (suc i) cols′) (suc i)
+        → Selected n capacity i times zone (taken n count list times zone seen counts cols i s) list seen counts cols
+        (record { count = count; full = false }) list seen′ counts cols′
+    unfolding columnSets
+    taken-shut barred =
+        let o : Outlook n a d (zoneAt (zoneSize n) seen′ (freeAt n counts i)) (take i cols ++ (s ∷ [])) (suc i)
+        = record { closed = next .backward .closed; before = next .before; kept = next .kept } in
+        let shut = shut-barred o (omega (arith, u .row)) (rw (t .select .tabled .is, cols-next) at barred) in
+        let same : taken n count list times zone seen counts cols i s ≡ zs
+        = rw left (nothing-kept n a d _ (take i cols ++ (s ∷ [])) (suc i) (suc n - suc i) zs shut) in
+        rw same (record { held = held-as-is (t .select .room); noted = still-noted; rows = rows-then rows-before (rows-picked cols s) })
 
     -- then all that they make of it is in the list
     covered : Covered n a d below (suc i) (zoneAt (zoneSize n) seen′ (freeAt n counts i))

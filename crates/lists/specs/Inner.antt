@@ -10,12 +10,14 @@ use Rattle.model.specs.Sizes.{mostDepartures, zoneSize}
 use Rattle.model.specs.Matrix.{Matrix}
 use Rattle.model.specs.Network.{Time}
 use Rattle.model.specs.Search.{keep}
-use Rattle.model.specs.Conditions.{Column}
+use Rattle.model.specs.Conditions.{Column, Cols}
 use Rattle.memory.specs.Numbers.{boundsIn, timesIn}
-use Rattle.memory.specs.Conditions.{ZoneIn}
+use Rattle.memory.specs.Conditions.{TableIn, ZoneIn}
 use Rattle.memory.specs.Matrices.{Left}
 use Rattle.lists.specs.declared.Built.{Built}
 use Rattle.memory.specs.Side.{Elsewhere}
+use Rattle.starts.specs.Numbers as Starts
+use Rattle.ahead.specs.Needs.{needs}
 use Rattle.lists.specs.Lists.{seenSize, placesMet, zoneAt, listIn, ListRoom, ListHeld, Sources}
 use Rattle.lists.specs.Selecting.{extensions, withColumn, Selecting}
 use Rattle.lists.specs.Met.{freeAt, Tables, Noted}
@@ -25,6 +27,28 @@ use Rattle.lists.specs.Met.{freeAt, Tables, Noted}
 pub record PlacedAt (size k : ℕ) (o : Option Matrix) (before : List ℤ) (r : Bool) (after : List ℤ) : Type 0 where
   pub elsewhere : Elsewhere size k before after
   pub left : Left o r (zoneAt size after k)
+
+-- ---- what the zone needs, in a table
+pub record Tabled (n : ℕ) (times zone table : List ℤ) : Type 0 where
+  pub inside : ZoneIn n table
+  pub is : Starts.boundsIn table ≡ needs n (timesIn times) (boundsIn zone)
+
+-- a set of the table of sets met can be held against it: that of the row before, with column s; that of row i, with the columns up to there
+pub record FitReady (n : ℕ) (seen table times : List ℤ) (counts : List ℕ) (i s : ℕ) : Type 0 where
+  pub tables : Tables n seen counts
+  pub times-in : TableIn n times
+  pub table-in : ZoneIn n table
+  pub row : i ≤ n
+  pub from-one : 1 ≤ i
+  pub column : Column n (timesIn times) i s
+
+pub record ShutReady (n : ℕ) (seen table times : List ℤ) (counts cols : List ℕ) (i : ℕ) : Type 0 where
+  pub tables : Tables n seen counts
+  pub times-in : TableIn n times
+  pub table-in : ZoneIn n table
+  pub row : i ≤ n
+  pub long : suc i ≤ length cols
+  pub columns : Cols n (timesIn times) (take (suc i) cols) (suc i)
 
 -- ---- one column of row i
 -- what it adds to the set at place k of a list can be taken in
@@ -75,13 +99,14 @@ pub record RowsFrom (n i : ℕ) (seen seen′ : List ℤ) (counts counts′ cols
   pub cols-same : take i cols′ ≡ take i cols
 
 -- the sets of all columns of row i can be put to the list, and of column s
-pub record SelectReady (n capacity count : ℕ) (list times zone seen : List ℤ) (counts cols : List ℕ) (i : ℕ) : Type 0 where
+pub record SelectReady (n capacity count : ℕ) (list times zone table seen : List ℤ) (counts cols : List ℕ) (i : ℕ) : Type 0 where
   pub room : ListRoom (zoneSize n) capacity count list
+  pub tabled : Tabled n times zone table
   pub ready : Underway n times zone seen counts cols i
   pub noted : Noted n times zone (listIn (zoneSize n) count list) seen counts
 
-pub record TakeReady (n capacity count : ℕ) (list times zone seen : List ℤ) (counts cols : List ℕ) (i s : ℕ) : Type 0 where
-  pub select : SelectReady n capacity count list times zone seen counts cols i
+pub record TakeReady (n capacity count : ℕ) (list times zone table seen : List ℤ) (counts cols : List ℕ) (i s : ℕ) : Type 0 where
+  pub select : SelectReady n capacity count list times zone table seen counts cols i
   pub column : Column n (timesIn times) i s
 
 -- the list is zs then

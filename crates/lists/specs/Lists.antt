@@ -75,6 +75,7 @@ pub record ListHeld (size capacity : ℕ) (zs : List Matrix) (r : Built) (before
 pub record Sources (n : ℕ) (times : List ℤ) (zs : List Matrix) : Type 0 where
   pub table : TableIn n times
   pub regular : Regular n (timesIn times)
+  pub closed : Every (Closed (suc n)) zs
   pub each : Every (Buildable n (timesIn times) Limit) zs
 
 -- the halves of the workspace: a list is at one, and the next list is made at the other

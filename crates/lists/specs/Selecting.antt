@@ -7,9 +7,10 @@ use lib.IntN.{ℤ}
 use Rattle.model.specs.Matrix.{Matrix, constrain}
 use Rattle.model.specs.Network.{Time, blank, time}
 use Rattle.model.specs.Search.{selections, rowConstraints, rowsConstraints}
-use Rattle.model.specs.Conditions.{Regular, Column, Selection, Fitting, Before}
+use Rattle.model.specs.Conditions.{Regular, Column, Closed, Selection, Fitting, Before}
 use Rattle.memory.specs.Numbers.{boundsIn, timesIn, Limit}
 use Rattle.memory.specs.Conditions.{TableIn, ZoneIn}
+use Rattle.ahead.specs.Outlook.{Kept}
 
 -- the sets of the selections of r rows from row i on, from the set so far and the columns of the rows before
 unfoldable pub extensions : ℕ → List Time → Matrix → Option Matrix → List ℕ → ℕ → ℕ → List (Option Matrix)
@@ -24,6 +25,7 @@ pub record Backward (n : ℕ) (times zone : List ℤ) : Type 0 where
   pub table : TableIn n times
   pub regular : Regular n (timesIn times)
   pub source : ZoneIn n zone
+  pub closed : Closed (suc n) (boundsIn zone)
 
 -- the set that the columns of rows 0 to i - 1 leave. Whatever columns the rows from row i on pick, no set on the way has a finite
 -- bound beyond Limit
@@ -31,6 +33,7 @@ pub record Selecting (n : ℕ) (times zone : List ℤ) (part : Matrix) (cols : L
   pub backward : Backward n times zone
   pub to-end : i ≤ suc n
   pub before : Before n (timesIn times) part cols i
+  pub kept : Kept n (timesIn times) (boundsIn zone) part i
   pub fitting : (rest : List ℕ) → Selection n (timesIn times) (suc n - i) i rest
       → Fitting (suc n) Limit (some part) (rowsConstraints n (timesIn times) (boundsIn zone) cols i rest)
 

@@ -198,13 +198,15 @@ fn put_last(
     Built { count, full: false }
 }
 
-// The sets of the selections with column s in row i, put to the list.
+// The sets of the selections with column s in row i, put to the list. Of a column that does not fit what the zone needs, and of a set for which a row has none
+// that does, nothing is left.
 fn take_column(
     list: &mut [i32],
     count: usize,
     capacity: usize,
     times: &[i32],
     zone: &[i32],
+    table: &[i64],
     seen: &mut [i32],
     counts: &mut [usize],
     cols: &mut [usize],
@@ -212,7 +214,7 @@ fn take_column(
     i: usize,
     s: usize,
 ) -> Built
-    requires { ⌜ TakeReady n capacity count (now list) (now times) (now zone) (now seen) (now counts) (now cols) i s ⌝ }
+    requires { ⌜ TakeReady n capacity count (now list) (now times) (now zone) (now table) (now seen) (now counts) (now cols) i s ⌝ }
     ensures { λ r. ⌜
         Selected n capacity i (now (times .entry)) (now (zone .entry))
         (foldl keep (listIn (zoneSize n) count (now (list .entry)))
@@ -222,19 +224,27 @@ fn take_column(
         r (now (list .exit)) (now (seen .exit)) (now (counts .exit)) (now (cols .exit))
         ⌝ }
 {
+    let nothing = Built { count, full: false };
+    if met::unfit(seen, counts, table, times, n, i, s) {
+        return nothing;
+    }
     if i == n {
         return put_last(list, count, capacity, times, zone, seen, counts, cols, n, s);
     }
     if !met::fresh(seen, counts, cols, times, zone, n, i, s) {
-        return Built { count, full: false };
+        return nothing;
     }
     cols[i] = s;
+    if met::shut(seen, counts, cols, table, times, n, i) {
+        return nothing;
+    }
     let built = select(
         list,
         count,
         capacity,
         times,
         zone,
+        table,
         seen,
         counts,
         cols,
@@ -254,13 +264,14 @@ fn select(
     capacity: usize,
     times: &[i32],
     zone: &[i32],
+    table: &[i64],
     seen: &mut [i32],
     counts: &mut [usize],
     cols: &mut [usize],
     n: usize,
     i: usize,
 ) -> Built
-    requires { ⌜ SelectReady n capacity count (now list) (now times) (now zone) (now seen) (now counts) (now cols) i ⌝ }
+    requires { ⌜ SelectReady n capacity count (now list) (now times) (now zone) (now table) (now seen) (now counts) (now cols) i ⌝ }
     ensures { λ r. ⌜
         Selected n capacity i (now (times .entry)) (now (zone .entry))
         (foldl keep (listIn (zoneSize n) count (now (list .entry)))
@@ -279,6 +290,7 @@ fn select(
             capacity,
             times,
             zone,
+            table,
             seen,
             counts,
             cols,
@@ -314,6 +326,8 @@ fn pull_back(
 {
     let size = zone_size(n);
     zones::everything(&mut seen[..size], n);
+    let mut table = [0i64; NUMBERS];
+    ahead::needs(&mut table[..size], times, zone, n);
     let mut counts = [0usize; ROWS];
     let mut cols = [0usize; ROWS];
     select(
@@ -322,6 +336,7 @@ fn pull_back(
         capacity,
         times,
         zone,
+        &table[..size],
         seen,
         &mut counts,
         &mut cols,

@@ -1,16 +1,17 @@
 -- Bounds in halves: each number stands for one bound, the order is that of the numbers, and a sum is theirs, with 1 more if both are odd.
-use Prim.Native.Nat.{ℕ, zero, suc, _+_, _*_, _/_, _%_, _≤_, min}
+use Prim.Native.Nat.{ℕ, zero, suc, _+_, _*_, _/_, _%_, _^_, _≤_, min}
 use native.Mathlib.Omega.{arith}
 use native.Mathlib.Nat.{div-add-mod', mod-lt}
 use mathlib.Core.Path.{_≡_, refl, ap, ap₂, sym, _∙_}
 use mathlib.Core.Bool.{Bool, true, false, cond, _||_}
 use lib.Bits.{bitAnd, and-step, and-mask}
-use lib.Dec.{eqb}
+use lib.Dec.{T, eqb, ltb, ltb→lt}
 use lib.IntN.{ℤ, pos, negsuc, negℤ, natAbs, _+ℤ_}
 use lib.Signed.{leZ, ltZ}
-use mir.Syntax.{w64}
-use mir.Val.{SFits, ofZ}
-use Rattle.ints.proofs.Integers.{impossible, up, dn, ints, range, add-ud, neg-ud, pos-ud, abs-ud}
+use mir.Syntax.{Width, w8, w16, w32, w64, w128}
+use mir.Val.{SFits, bits, hbits, ofZ, toZ}
+use mir.ValLaws.{toZ-ofZ, toZ-pos}
+use Rattle.ints.proofs.Integers.{impossible, up, dn, ints, add-ud, neg-ud, pos-ud, abs-ud}
 use Rattle.model.specs.Bound as B
 use Rattle.model.specs.Bound.{upto, LeB, bit, halves, plus, tighter, negative}
 use Rattle.model.specs.Conditions.{Small, sized}
@@ -163,16 +164,45 @@ plus-halves u v =
     ) in
     rw (h .is, k .is, e) (sym (of-halves (s || t) (b +ℤ c)))
 
--- of the bits
-odd-bits : (z : ℤ) → SFits w64 z → ofZ w64 z % 2 ≡ natAbs z % 2
+-- ---- of the bits, at any width
+twice : (w : Width) → (2 ^ bits w ≡ 2 * 2 ^ hbits w) × T (ltb 1 (2 ^ hbits w))
+twice w8 = (refl, tt)
+twice w16 = (refl, tt)
+twice w32 = (refl, tt)
+twice w64 = (refl, tt)
+twice w128 = (refl, tt)
+
+odd-bits : {w : Width} (z : ℤ) → SFits w z → ofZ w z % 2 ≡ natAbs z % 2
 odd-bits (pos n) f = refl
-odd-bits (negsuc n) f = let r = range f in omega arith
+odd-bits {w} (negsuc n) f = omega (arith, f .sfits, twice w .0)
 
-pub last-bit : (z : ℤ) → SFits w64 z → bitAnd (ofZ w64 z) 1 ≡ natAbs z % 2
-last-bit z f = omega (arith, and-mask (ofZ w64 z) 1, odd-bits z f)
+pub last-bit : {w : Width} (z : ℤ) → SFits w z → bitAnd (ofZ w z) 1 ≡ natAbs z % 2
+last-bit {w} z f = omega (arith, and-mask (ofZ w z) 1, odd-bits z f)
 
-pub both-bits : (u v : ℤ) → SFits w64 u → SFits w64 v → bitAnd (bitAnd (ofZ w64 u) (ofZ w64 v)) 1 ≡ bothOdd u v
-both-bits u v f g =
-    let a = ofZ w64 u in
-    let b = ofZ w64 v in
-    omega (arith, and-mask (bitAnd a b) 1, and-step a b, odd-bits u f, odd-bits v g)
+module _ {w : Width} (u v : ℤ) (f : SFits w u) (g : SFits w v) where
+  one : toZ w (bitAnd (bitAnd (ofZ w u) (ofZ w v)) 1) ≡ pos (bothOdd u v)
+  one =
+      let a = ofZ w u in
+      let b = ofZ w v in
+      let e : bitAnd (bitAnd a b) 1 ≡ bothOdd u v = omega (arith, and-mask (bitAnd a b) 1, and-step a b, odd-bits u f, odd-bits v g) in
+      rw e (toZ-pos w (bothOdd u v) (omega (arith, odd-one u v, ltb→lt 1 (2 ^ hbits w) (twice w .1))))
+
+  -- the code's sum: each step fits if the numbers do, and it stands for the sum of the bounds
+  module _ (s : SFits w (u +ℤ v)) (t : SFits w ((u +ℤ v) +ℤ pos (bothOdd u v))) where
+    abbrev first : ℤ
+    first = toZ w (ofZ w u) +ℤ toZ w (ofZ w v)
+
+    abbrev second : ℤ
+    second = toZ w (ofZ w first) +ℤ toZ w (bitAnd (bitAnd (ofZ w u) (ofZ w v)) 1)
+
+    pub first-fits : SFits w first
+    first-fits = rw (toZ-ofZ w u f, toZ-ofZ w v g) s
+
+    second-is : second ≡ (u +ℤ v) +ℤ pos (bothOdd u v)
+    second-is = rw (toZ-ofZ w u f, toZ-ofZ w v g, toZ-ofZ w (u +ℤ v) s, one)
+
+    pub second-fits : SFits w second
+    second-fits = rw second-is t
+
+    pub sum-told : ofHalves (toZ w (ofZ w second)) ≡ plus (ofHalves u) (ofHalves v)
+    sum-told = rw (second-is, toZ-ofZ w ((u +ℤ v) +ℤ pos (bothOdd u v)) t) (sym (plus-halves u v))

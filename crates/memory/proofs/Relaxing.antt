@@ -114,7 +114,7 @@ module _ {n L : ℕ} {d : Matrix} {a b : ℕ} {limit : Bound} (t : Takes n L d (
     module _ {d′ : Matrix} {i : ℕ} (inv : Filled n d d′ (via n d a b limit) i) (hi : i < suc n)
         {way : Bound} (e : way ≡ plus (entry (suc n) d′ i a) limit) where
       -- row b does not change
-      base-same : (j : ℕ) → j < suc n → entry (suc n) d′ b j ≡ entry (suc n) d b j
+      pub base-same : (j : ℕ) → j < suc n → entry (suc n) d′ b j ≡ entry (suc n) d b j
       base-same j hj = elim (decLt b i) [
         | yes l ↦ inv .done b j (inside .col-fits) hj l ∙ round _ _ ok
         | no l ↦ inv .left b j (inside .col-fits) hj (omega arith)

@@ -58,7 +58,7 @@ module _ (n : ℕ) (a : List Time) (d : Matrix) where
         (rows-alike (cols ++ (s ∷ [])) (cols′ ++ (s ∷ [])) rest (long-more cols s long) (long-more cols′ s long′)
         (more-at (λ l u v. sum n a x l u ≡ sum n a x l v) cols cols′ s long long′ same refl) t)
 
-  rows-fit : (cols : List ℕ) {r i : ℕ} {rest : List ℕ} → 1 ≤ i → length cols ≡ i → Cols n a cols i → Selection n a r i rest
+  pub rows-fit : (cols : List ℕ) {r i : ℕ} {rest : List ℕ} → 1 ≤ i → length cols ≡ i → Cols n a cols i → Selection n a r i rest
       → Every (Fits (suc n)) (rowsConstraints n a d cols i rest)
   unfolding rowsConstraints
   rows-fit cols h long before no-row = done

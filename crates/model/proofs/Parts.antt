@@ -104,7 +104,7 @@ module _ (parts : ℕ) (n : ℕ) (a : List Time) where
       ap (at j s) (sym (slack-parts (chosen n a i s) (time n a i j)) ∙ ap₂ slack (sym (chosen-parts i s)) (sym (time-parts i j))))
 
 module _ (parts : ℕ) (some-parts : 1 ≤ parts) (n : ℕ) (a : List Time) (d : Matrix) where
-  keeps-parts : (i s l t : ℕ) → through (scale parts) (keeps n a d i s l t) ≡ keeps n (A parts n a) (scaled parts d) i s l t
+  pub keeps-parts : (i s l t : ℕ) → through (scale parts) (keeps n a d i s l t) ≡ keeps n (A parts n a) (scaled parts d) i s l t
   unfolding keeps scale
   keeps-parts i s l t = ap (at s t) (scale-plus parts (entry (suc n) d i l) (most (chosen n a l t -ℤ chosen n a i s))
       ∙ ap₂ plus (sym (entry-map (scaling parts some-parts) (suc n) d i l))

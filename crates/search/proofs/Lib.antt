@@ -1,2 +1,3 @@
 mod Looked
+mod MovingOn
 mod Searching

@@ -1,18 +1,20 @@
-// The search: list after list, until one meets the start, the table is full, no zone is left, or the cycles are searched.
+// The search: list after list, until one meets the start, the table is full, no zone is left, or the cycles are searched. Where a list is the one
+// before it with the clock moved, so is each later one, and no more lists are made.
 ghost use mathlib.Core.Path.{_≡_};
 ghost use mathlib.Core.List.{[]};
 ghost use mathlib.Core.Bool.{true};
-ghost use Prim.Native.Nat.{_≤_};
+ghost use Prim.Native.Nat.{suc, _-_, _≤_};
 ghost use lib.ListN.{length, drop};
 ghost use Rattle.model.specs.Sizes.{zoneSize};
-ghost use Rattle.model.specs.Search.{previous};
 ghost use Rattle.model.specs.Answers.{answered, allTimes};
 ghost use Rattle.memory.specs.Numbers.{boundsIn, timesIn};
 ghost use Rattle.lists.specs.Lists.{seenSize, listIn};
 ghost use Rattle.memory.specs.Networks.{networkIn};
-ghost use Rattle.search.specs.Searching.{Searchable, Stepping, Stepped, pastBy, Searched};
+ghost use Rattle.search.specs.Searching.{Searchable, Stepping, Stepped, MovingOn, movedSearch, pastBy, Searched};
 use ints::Cycle;
+use ints::Seconds;
 use ints::ZERO;
+use lists::Found;
 use model::Answer;
 use model::DEPARTURES;
 use model::Fault;
@@ -52,6 +54,18 @@ fn past(end: End) -> Answer
     }
 }
 
+// The answer where list k meets the start.
+fn reached(found: Found, parts: usize, k: Cycle) -> Answer
+    ensures { λ r. ⌜ r ≡ record { verdict = Verdict.Reached k; parts = parts; start = found .start } ⌝ }
+{
+    let start = found.start;
+    Answer {
+        verdict: Verdict::Reached(k),
+        parts,
+        start,
+    }
+}
+
 // The search ends with this answer.
 fn settled(answer: Answer) -> Step
     ensures { λ r. ⌜ r ≡ record { ended = true; count = 0; answer = answer } ⌝ }
@@ -63,7 +77,7 @@ fn settled(answer: Answer) -> Step
     }
 }
 
-// One cycle: makes list k at goal from the list at source, and looks through it.
+// One cycle: makes list k at goal from the list at source, which stays, and looks through it.
 fn one_cycle(
     work: &mut [i32],
     source: usize,
@@ -79,8 +93,8 @@ fn one_cycle(
 ) -> Step
     requires { ⌜ Stepping n parts capacity source goal count (now work) (now times) (now start) (now seen) ⌝ }
     ensures { λ r. ⌜
-        Stepped n parts capacity (k .0) goal (boundsIn (now (start .entry)))
-        (previous n (timesIn (now (times .entry))) (listIn (zoneSize n) count (drop source (now (work .entry))))) (now (work .exit)) r
+        Stepped n parts capacity (k .0) source goal count (boundsIn (now (start .entry))) (timesIn (now (times .entry)))
+        (listIn (zoneSize n) count (drop source (now (work .entry)))) (now (work .exit)) r
         ⌝ }
 {
     let built = lists::next_list(work, source, goal, count, capacity, times, seen, n);
@@ -90,12 +104,7 @@ fn one_cycle(
     }
     let found = lists::first_common(work, goal, built.count, start, n, parts);
     if found.some {
-        let start = found.start;
-        let answer = Answer {
-            verdict: Verdict::Reached(k),
-            parts,
-            start,
-        };
+        let answer = reached(found, parts, k);
         return settled(answer);
     }
     let answer = plain(Verdict::Clear(k));
@@ -113,6 +122,44 @@ struct Task {
     parts: usize,
     cycles: Cycle,
     end: End,
+}
+
+// The rest of a search where each list is the one before it with the clock moved, and list k is at base. Where the clock does not move, they are all the
+// same, and none meets the start.
+fn move_on(
+    work: &mut [i32],
+    base: usize,
+    count: usize,
+    start: &[i32],
+    task: Task,
+    k: Cycle,
+    by: Seconds,
+) -> Answer
+    requires { ⌜ MovingOn (task .n) (task .parts) base count (task .cycles .0 - k .0) (by .0) (now work) (now start) ⌝ }
+    ensures { λ r. ⌜
+        r ≡ answered
+        (movedSearch (task .n) (task .parts) (by .0) (boundsIn (now (start .entry))) (task .cycles .0 - k .0) (suc (k .0))
+        (listIn (zoneSize (task .n)) count (drop base (now (work .entry)))) (pastBy (task .end)))
+        ⌝ }
+{
+    let end = task.end;
+    if !by.beyond(0) {
+        return past(end);
+    }
+    let n = task.n;
+    let parts = task.parts;
+    let cycles = task.cycles;
+    let last = cycles.0;
+    let mut at = k.0;
+    while at < last {
+        at += 1;
+        moves::move_list(work, base, count, n, by);
+        let found = lists::first_common(work, base, count, start, n, parts);
+        if found.some {
+            return reached(found, parts, Cycle(at));
+        }
+    }
+    past(end)
 }
 
 // The answer of a search, with a table for the sets met.
@@ -135,10 +182,8 @@ fn search_with(
 {
     let capacity = task.capacity;
     let n = task.n;
-    let parts = task.parts;
     let cycles = task.cycles;
     let last = cycles.0;
-    let end = task.end;
     let half = capacity * memory::zone_size(n);
     let mut count = lists::first_list(work, target, n);
     let mut source = 0;
@@ -156,11 +201,15 @@ fn search_with(
             start,
             seen,
             n,
-            parts,
+            task.parts,
             Cycle(k),
         );
         if next.ended {
             return next.answer;
+        }
+        let found = moves::find_move(work, source, count, goal, next.count, n);
+        if found.some {
+            return move_on(work, goal, next.count, start, task, Cycle(k), found.by);
         }
         count = next.count;
         source = goal;
@@ -168,6 +217,7 @@ fn search_with(
     if count == 0 {
         return plain(Verdict::Never);
     }
+    let end = task.end;
     past(end)
 }
 

@@ -65,7 +65,7 @@ pub fn bound_at(zone: &[i64], n: usize, i: usize, j: usize) -> Number
 }
 
 // Stores a bound on x(i) - x(j).
-fn put(zone: &mut [i64], n: usize, i: usize, j: usize, b: Number)
+pub fn put(zone: &mut [i64], n: usize, i: usize, j: usize, b: Number)
     requires { ⌜ ZoneCell n (now zone) i j × Small Stored (asBound b) ⌝ }
     ensures { λ r. ⌜ boundsIn (now (zone .exit)) ≡ set (boundsIn (now (zone .entry))) (i * suc n + j) (asBound b) ⌝ }
 {

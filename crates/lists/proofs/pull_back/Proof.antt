@@ -6,10 +6,12 @@ use mathlib.Core.Path.{_≡_, sym, _∙_}
 use mathlib.Core.List.{_++_}
 use lib.ListN.{length, drop}
 use lib.Seq.{length-front}
-use Rattle.model.specs.Sizes.{zoneSize}
+use Rattle.model.specs.Sizes.{mostNumbers, zoneSize}
 use Rattle.model.specs.Matrix.{everything}
+use Rattle.memory.proofs.Places.{zone-fits}
 use Rattle.lists.specs.Lists.{seenSize, zoneAt}
-use Rattle.lists.proofs.Fronts.{front-long, front-zone, front-at}
+use Rattle.lists.specs.Inner.{Tabled}
+use Rattle.lists.proofs.Fronts.{front-long, front-zone, front-room, front-is, front-at}
 use Rattle.lists.proofs.Lengths.{set-room}
 use Rattle.lists.proofs.Starting.{row-one, none-noted, preimages}
 use Rattle.lists.proofs.pull_back.Statement.{statement}
@@ -50,32 +52,42 @@ first c =
     let z = c .before .before in
     rw (← (z .zone-size .ensures)) (front-at _ _ (inside z) _ (c .everything .kept .0) ∙ c .everything .ensures)
 
-slice-aggregate-select : tie.Need-slice-aggregate-select
-slice-aggregate-select c = search needs
+-- the table of needs has room
+table-room : (c : tie.After-zone-size) → c .zone-size .result ≤ mostNumbers
+table-room c = omega (arith, zone-fits (c .before .pre .sources .table .departures), c .zone-size .ensures)
 
-slice-aggregate-select-2 : tie.Need-slice-aggregate-select-2
-slice-aggregate-select-2 c = search needs
+needs-requires : tie.Need-needs-requires
+needs-requires c κs =
+    let z = c .before .before .before .before in
+    let p = z .before .pre in
+    (p .sources .table, p .source, front-zone _ _ (table-room z) (p .sources .table .departures) (z .zone-size .ensures))
+
+tabled : (c : tie.After-needs) → let a = c .before .before .before .before .before .before .args in
+    Tabled (a .n) (a .times .now) (a .zone .now) (c .needs .last .0)
+tabled c =
+    let z = c .before .before .before .before .before in
+    let p = z .before .pre in
+    record {
+      inside = record { few = p .source .few; size = c .needs .kept .0 ∙ front-long _ _ (table-room z) ∙ z .zone-size .ensures };
+      is = c .needs .ensures;
+    }
 
 select-requires : tie.Need-select-requires
 select-requires c κs =
-    let e = c .before .before .before .before .before in
+    let d = c .before .before .before .before .before .before in
+    let e = d .before .before .before in
     let p = e .before .before .before .pre in
     record {
       room = p .room;
+      tabled = rw (front-is _ _ (table-room (e .before .before)) (d .needs .last .0) (d .needs .kept .0)) (tabled d);
       ready = row-one (p .sources) (p .source) _ (long e) (first e);
       noted = none-noted (p .sources) (p .source) _ (long e) (first e);
     }
 
-same-length : tie.Need-same-length
-same-length c = search needs
-
-same-length-2 : tie.Need-same-length-2
-same-length-2 c = search needs
-
 returns : tie.Need-returns
 returns c =
     let s = c .before .before .before .before in
-    let e = s .before .before .before .before .before .before in
+    let e = s .before .before .before .before .before .before .before .before .before .before in
     let p = e .before .before .before .pre in
     rw (preimages (p .sources) (p .source) _ (long e) (first e)) at (s .select .ensures .held)
 
@@ -87,9 +99,16 @@ pull-back-spec =
     slice-relend-prefix-everything
     slice-aggregate-everything
     everything-requires
-    slice-aggregate-select
-    slice-aggregate-select-2
+    (λ c. table-room (c .before .before .before))
+    (λ c. sym (front-long _ _ (table-room (c .before .before .before .before))))
+    needs-requires
+    (λ c. let d = c .before .before in front-room _ _ (table-room (d .before .before .before .before .before)) (d .needs .last .0) (d .needs .kept .0))
+    (λ c.
+    let d = c .before .before .before in
+    sym (front-long _ _ (front-room _ _ (table-room (d .before .before .before .before .before)) (d .needs .last .0) (d .needs .kept .0))))
+    (λ c. search needs)
+    (λ c. search needs)
     select-requires
-    same-length
-    same-length-2
+    (λ c. search needs)
+    (λ c. search needs)
     returns)

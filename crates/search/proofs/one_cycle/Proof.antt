@@ -2,7 +2,7 @@
 use borrow.Author.Needs.{needs}
 use Rattle.lists.proofs.Held.{held-full, held-open, held-list}
 use Rattle.search.specs.Searching.{full, met, on}
-use Rattle.search.proofs.Looked.{meeting, found-some, found-none}
+use Rattle.search.proofs.Looked.{meeting, source-same, found-some, found-none}
 use Rattle.search.proofs.one_cycle.Statement.{statement}
 use Rattle.search.proofs.one_cycle.Tie as tie
 
@@ -50,7 +50,7 @@ returns-2 c =
     let held = l .next-list .ensures .list in
     let a = l .before .before .before .args in
     let (z, e, s) = found-some (a .n) (a .parts) _ (rw (held-list held left .1) at (f .first-common .ensures)) (d .if2 .taken) in
-    rw (c .settled2 .ensures, s) (met (held-open held left) e)
+    rw (c .settled2 .ensures, c .before .reached .ensures, s) (met (held-open held left) e)
 
 plain-requires-2 : tie.Need-plain-requires-2
 plain-requires-2 c κs = search needs
@@ -68,9 +68,11 @@ returns-3 c =
     let left = f .before .before .if1 .left in
     let held = l .next-list .ensures .list in
     let (n, is) = held-list held left in
-    let a = l .before .before .before .args in
+    let b = l .before .before .before in
+    let a = b .args in
+    let old = source-same (l .next-list .last .0) (b .pre .building) (l .next-list .ensures) in
     let e = found-none (a .n) (a .parts) _ (rw is at (f .first-common .ensures)) (c .before .if2 .left) in
-    rw (c .plain2 .ensures, n) (on (held-open held left) e (rw n at is))
+    rw (c .plain2 .ensures, n) (on (held-open held left) e (record { old = old; new = rw n at is }))
 
 pub one-cycle-spec : {M : Type 1} → statement M
 one-cycle-spec =
@@ -83,6 +85,7 @@ one-cycle-spec =
     same-length-2
     returns
     first-common-requires
+    (λ c κs. search needs)
     settled-requires-2
     same-length-3
     same-length-4

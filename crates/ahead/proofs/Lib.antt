@@ -1,0 +1,4 @@
+pub mod Leaving
+pub mod Needed
+pub mod Keeping
+mod Tabled
