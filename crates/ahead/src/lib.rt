@@ -1,6 +1,8 @@
 // Looking ahead: whether the rows of a selection that have no column yet can leave anything of a set. No set is built: what a zone needs of the times whose
 // image is in it is tabled once for each zone. Where a column does not fit that, or a set is shut, nothing is left. Where it is not said, something may be
 // left or not: then more is built, and the lists are the same.
+#![tactic(auto)]
+
 ghost use Rattle.std.specs.Prelude.{◌≡◌, true, suc, ◌≤◌};
 ghost use Rattle.model.specs.Matrix.{entry};
 ghost use Rattle.model.specs.Conditions.{Column};

@@ -1,4 +1,6 @@
 // Converts packed cases: what is read in one form is written in the other, where that loses nothing.
+#![tactic(auto)]
+
 ghost use Rattle.std.specs.Prelude.{◌≡◌, [], cond, ◌+◌, ◌*◌, ◌≤◌, length, take};
 ghost use Rattle.model.specs.Sizes.{most_bounds, most_bits, most_width, time_width};
 ghost use Rattle.model.specs.Forms.{old, wide};
@@ -17,7 +19,7 @@ use model::{
 const OLD_DEPARTURES: usize = (1 << OLD.digits) - 1;
 
 // What the old form has no place for starts at this bit of the wide form, or there is no such thing and the next field starts at this bit.
-#[derive(Drop)]
+#[derive(Clone, Copy)]
 enum Looked {
     Lost(usize),
     Next(usize),

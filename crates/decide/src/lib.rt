@@ -1,4 +1,6 @@
 // The exact answer on an unpacked case: power after power of its table, until one meets the target or repeats an earlier one. It keeps no list of zones.
+#![tactic(auto)]
+
 ghost use Rattle.std.specs.Prelude.{◌≡◌, ◌≤◌, length, take};
 ghost use Rattle.model.specs.Faults.{network};
 ghost use Rattle.model.specs.Search.{parts_of, pick};
@@ -17,14 +19,14 @@ use memory::{table_size, zone_size};
 use model::{Case, DEPARTURES, Fault, Judged, TIMES};
 
 // Whether the next power is the kept one with a number added, and the power that is to replace the kept one.
-#[derive(Drop)]
+#[derive(Clone, Copy)]
 struct Renewed {
     again: bool,
     until: usize,
 }
 
 // The numbers of a search: departures, parts of a second, whether never can be told from a repeated power, the horizon, the steps.
-#[derive(Drop)]
+#[derive(Clone, Copy)]
 struct Task {
     n: usize,
     parts: usize,

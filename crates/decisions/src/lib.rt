@@ -1,4 +1,6 @@
 // The public types of the exact answer, which needs no list of zones. What they mean is defined in specs/.
+#![tactic(auto)]
+
 ghost use Rattle.std.specs.Prelude.{◌≡◌};
 ghost use Rattle.decisions.specs.Decide.{numbers_of};
 
@@ -9,7 +11,7 @@ use model::{DEPARTURES, Fault};
 pub const FARTHEST: usize = 4096;
 
 // Undecided has the cycle at which the steps ran out: no cycle before it is met.
-#[derive(Drop)]
+#[derive(Clone, Copy)]
 pub enum Finding {
     Reached(Cycle),
     Clear(Cycle),
@@ -60,7 +62,7 @@ impl Finding {
 }
 
 // A finding, beside it the start that it hands back, in parts of which parts make a second: all 0 unless it is Reached.
-#[derive(Drop)]
+#[derive(Clone, Copy)]
 pub struct Decided {
     pub finding: Finding,
     pub parts: usize,

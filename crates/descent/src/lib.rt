@@ -1,5 +1,7 @@
 // One try: whether some times of a set go into a zone by one step of a table, which is a power of a network's table. Row by row, column after column, with one
 // set for each row, over numbers of 64 bits. Where several columns attain a row's largest sum, the first of them counts.
+#![tactic(auto)]
+
 ghost use Rattle.std.specs.Prelude.{◌≡◌, suc, ◌+◌, ◌*◌, ◌-◌, ◌≤◌, ◌<◌, ◌-ℤ◌, nat_abs, length, take};
 ghost use Rattle.std.proofs.Math.Seq.{paste};
 ghost use Rattle.model.specs.Sizes.{most_departures, most_times, zone_size};
@@ -32,7 +34,7 @@ const ROWS: usize = DEPARTURES + 1;
 pub const SETS: usize = ROWS * NUMBERS;
 
 // How a try ends: with a set, which is that of the last row, with none and so many steps left, or out of steps.
-#[derive(Drop)]
+#[derive(Clone, Copy)]
 pub enum Ended {
     Found,
     Missed(usize),

@@ -1,6 +1,8 @@
 // The library for C and Rust: verdicts, exact answers, runs, packed cases written, read and converted, on numbers and lent arrays.
 // No function asks anything of its caller.
 // Names of functions with arrays end in the most departures, which decides how long the arrays are: the header gives them to the linker under plain names.
+#![tactic(auto)]
+
 ghost use Rattle.std.specs.Prelude.{◌≡◌, ◌+◌, ◌≤◌, ◌<◌, length};
 ghost use Rattle.model.specs.Sizes.{most_times, most_bounds};
 ghost use Rattle.model.specs.Lists.{padded, tabulate};
@@ -30,7 +32,7 @@ const TARGET: usize = START + BOUNDS;
 pub const ENTRIES: usize = TARGET + BOUNDS;
 
 // The entries of an unpacked case: 1 in present where one is there, and 1 in strict where it is marked so, else 0.
-#[derive(Drop)]
+#[derive(Clone, Copy)]
 struct Entries {
     present: [u8; ENTRIES],
     strict: [u8; ENTRIES],
@@ -38,7 +40,7 @@ struct Entries {
 }
 
 // The two arrays of a case that a change of the table writes to.
-#[derive(Drop)]
+#[derive(Clone, Copy)]
 struct TableArrays {
     present: [u8; ENTRIES],
     values: [i64; ENTRIES],

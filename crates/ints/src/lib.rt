@@ -1,17 +1,19 @@
 // Whole seconds, cycle numbers, and the sign of a two's complement field.
+#![tactic(auto)]
+
 ghost use Rattle.std.specs.Prelude.{◌≡◌, cond, ◌*◌, ◌≤◌, ◌<◌, ◌^◌, ltb, pos, neg_ℤ, ◌+ℤ◌, ◌-ℤ◌, nat_abs};
 ghost use Rattle.std.specs.Int.Signed.{le_z, lt_z};
 ghost use Rattle.std.specs.Int.{w64};
 ghost use Rattle.std.proofs.Common.{SFits};
 
 // A time stamp.
-#[derive(Drop)]
+#[derive(Clone, Copy)]
 pub struct Seconds(pub i64);
 
 pub const ZERO: Seconds = Seconds(0);
 
 // An event counter.
-#[derive(Drop)]
+#[derive(Clone, Copy)]
 pub struct Cycle(pub usize);
 
 impl Seconds {

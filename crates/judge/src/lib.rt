@@ -1,4 +1,6 @@
 // Judges an unpacked case: the first fault of the case by itself, for a packed form, of a call for a verdict, and of a run. Also, the parts of its start.
+#![tactic(auto)]
+
 ghost use Rattle.std.specs.Prelude.{◌≡◌, map, ◌≤◌, ◌<◌, ◌^◌, take, ltb};
 ghost use Rattle.model.specs.declared.Fault.TheVariants as fault;
 ghost use Rattle.model.specs.Sizes.{most_departures, most_bounds, start_limit};

@@ -1,4 +1,6 @@
 // Lists of zones in the workspace.
+#![tactic(auto)]
+
 ghost use Rattle.std.specs.Prelude.{◌≡◌, suc, ◌+◌, ◌*◌, ◌-◌, ◌≤◌, length, take, drop};
 ghost use Rattle.std.proofs.Math.Option.{some};
 ghost use mathlib.Core.List.{[], ◌∷◌, map, foldl};
@@ -37,21 +39,21 @@ pub const MIDDLE_SEEN: usize = (MIDDLE + 1) * (met::MANY + 1) * ((MIDDLE + 1) * 
 pub const LARGE_SEEN: usize = ROWS * (met::FEW + 1) * NUMBERS;
 
 // A list made anew: its length, or that it has no room.
-#[derive(Drop)]
+#[derive(Clone, Copy)]
 pub struct Built {
     pub count: usize,
     pub full: bool,
 }
 
 // The start, in parts, picked in what the first zone of a list that meets a pattern has in common with it, if there is one.
-#[derive(Drop)]
+#[derive(Clone, Copy)]
 pub struct Found {
     pub some: bool,
     pub start: [Seconds; DEPARTURES],
 }
 
 // The zone of a pattern in whole parts of a second, at the front of an array of 64-bit numbers, if there are times in it.
-#[derive(Drop)]
+#[derive(Clone, Copy)]
 pub struct Whole {
     pub some: bool,
     pub zone: [i64; NUMBERS],

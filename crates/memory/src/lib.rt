@@ -1,4 +1,6 @@
 // Numbers in memory: the bounds of zones and of patterns, and the times of the table.
+#![tactic(auto)]
+
 ghost use Rattle.std.specs.Prelude.{◌≡◌, true, ◌||◌, map, suc, ◌+◌, ◌*◌, ◌≤◌, ◌<◌, pos, ◌-ℤ◌, nat_abs, length, set, take};
 ghost use Rattle.std.specs.Int.Signed.{le_z, lt_z};
 ghost use Rattle.model.specs.Sizes.{most_departures, bound_limit, table_size, pattern_size, zone_size, most_bounds, most_times_at_once};
@@ -20,7 +22,7 @@ use model::{BOUNDS, NOTHING, Slot};
 pub const NONE: i32 = 2147483647;
 
 // A bound in halves: 2b stands for at most b, and 2b - 1 for less than b. The smaller number is the tighter bound.
-#[derive(Drop)]
+#[derive(Clone, Copy)]
 pub struct Halves(pub i64);
 
 impl Halves {
@@ -56,7 +58,7 @@ impl Halves {
 }
 
 // What a number in memory stands for as a bound.
-#[derive(Drop)]
+#[derive(Clone, Copy)]
 pub enum Number {
     Blank,
     Upto(Halves),

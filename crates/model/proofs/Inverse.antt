@@ -65,9 +65,9 @@ module _ {A : Type 0} (k : Kind A) (law : Lawful k) (s : List ℕ) where
       → entries k s (length es) p before ≡ got (before ++ map (tidy k) es) q
   unfolding entries entries_bits flat_map
   entries_of_lem [] before done (end p h) = rw append-nil
-  entries_of_lem (e ∷ es) before (both h hs) r =
+  entries_of_lem {p = p} (e ∷ es) before (both h hs) r =
       let (m, x, y) = split (entry_bits k e) (entries_bits k es) r in
-      rw (entry_of e h x, entries_of_lem es (before ++ tidy k e ∷ []) hs y, append_assoc)
+      rw (entry_of e h x, entries_of_lem {p = m} es (before ++ tidy k e ∷ []) hs y, append_assoc)
 
   -- ---- what is read is written
   entry_spells : (p : ℕ) → Gives (λ e q. Spells s p (entry_bits k e) q) (entry k s p)

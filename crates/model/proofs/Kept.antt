@@ -99,4 +99,4 @@ module _ {P : Matrix → Type 0} where
   pub kept_every : {kept : List Matrix} {os : List (Option Matrix)} → Every P kept → Every (λ o. (z : Matrix) → o ≡ some z → P z) os
       → Every P (foldl keep kept os)
   kept_every ps done = ps
-  kept_every {kept} ps (both {x = o} h hs) = kept_every (put_every (keep_is kept o) ps h) hs
+  kept_every {kept = kept} ps (both {x = o} h hs) = kept_every {kept = keep kept o} (put_every (keep_is kept o) ps h) hs

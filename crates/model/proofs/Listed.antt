@@ -117,6 +117,7 @@ module _ {X : Type 0} where
     some_at (there p) = let (x, h, q) = some_at p in (x, h, there q)
 
     pub every_some : {Q : X → Type 0} {xs : List X} → Every Q xs → Some P xs → Some (λ x. Q x × P x) xs
+    every_some done p = elim p [ ]
     every_some (both q qs) (here h) = here (q, h)
     every_some (both q qs) (there p) = there (every_some qs p)
 

@@ -81,6 +81,7 @@ module _ (k : ℕ) (some : 1 ≤ k) where
   pub le_scale : (b c : Bound) → LeB (scale k b) (scale k c) → LeB b c
   unfolding scale
   le_scale b B.Bound.none h = any
+  le_scale B.Bound.none (upto t c) h = elim h [ ]
   le_scale (upto s b) (upto t c) h = (ordered s t b c).1 h
 
 pub scale_scale : (j k : ℕ) (b : Bound) → scale k (scale j b) ≡ scale (j * k) b

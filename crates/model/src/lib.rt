@@ -1,4 +1,6 @@
 // The public types of the checker. What they mean is defined in specs/.
+#![tactic(auto)]
+
 ghost use Rattle.std.specs.Prelude.{◌≡◌};
 ghost use Rattle.std.specs.Int.{w64};
 ghost use Rattle.std.proofs.Common.{SFits};
@@ -40,7 +42,7 @@ pub const BOUNDS: usize = DEPARTURES * (DEPARTURES + 1);
 pub const NUMBERS: usize = (DEPARTURES + 1) * (DEPARTURES + 1);
 
 // A form of a packed case: how many zero bits stand in front, and the bits of n and of a bound's mark.
-#[derive(Drop)]
+#[derive(Clone, Copy)]
 pub struct Form {
     pub lead: usize,
     pub digits: usize,
@@ -70,7 +72,7 @@ pub const BITS: usize = WIDE.lead
 pub const BYTES: usize = (BITS + 7) / 8;
 
 // An entry of a table: its value counts where has is true.
-#[derive(Drop)]
+#[derive(Clone, Copy)]
 pub struct Slot {
     pub has: bool,
     pub value: Seconds,
@@ -103,7 +105,7 @@ impl Slot {
 }
 
 // A bound of a pattern: its mark, whether it is strict, and its value count where has is true.
-#[derive(Drop)]
+#[derive(Clone, Copy)]
 pub struct Limit {
     pub has: bool,
     pub strict: bool,
@@ -118,7 +120,7 @@ pub const FREE: Limit = Limit {
 };
 
 // An unpacked case. Entries are in packed order for n, from 0 on; those beyond are ignored. Each part has room for as many as a pattern has.
-#[derive(Drop)]
+#[derive(Clone, Copy)]
 pub struct Case {
     pub n: usize,
     pub horizon: Cycle,
@@ -127,7 +129,7 @@ pub struct Case {
     pub target: [Limit; BOUNDS],
 }
 
-#[derive(Drop)]
+#[derive(Clone, Copy)]
 pub enum Fault {
     CaseEnds(usize),
     Departures,
@@ -192,7 +194,7 @@ impl Fault {
     }
 }
 
-#[derive(Drop)]
+#[derive(Clone, Copy)]
 pub enum Verdict {
     Reached(Cycle),
     Clear(Cycle),
@@ -239,42 +241,42 @@ impl Verdict {
 }
 
 // A verdict, beside it the start that it hands back, in parts of which parts make a second: all 0 unless it is Reached.
-#[derive(Drop)]
+#[derive(Clone, Copy)]
 pub struct Answer {
     pub verdict: Verdict,
     pub parts: usize,
     pub start: [Seconds; DEPARTURES],
 }
 
-#[derive(Drop)]
+#[derive(Clone, Copy)]
 pub enum Judged {
     Accepted,
     Refused(Fault),
 }
 
 // A packed case that was read: an empty one where it is refused.
-#[derive(Drop)]
+#[derive(Clone, Copy)]
 pub struct Unpacked {
     pub judged: Judged,
     pub case: Case,
 }
 
 // A case with one time changed: the case as it was given where that is refused.
-#[derive(Drop)]
+#[derive(Clone, Copy)]
 pub struct Committed {
     pub judged: Judged,
     pub case: Case,
 }
 
 // What a writer says: how many bytes it put at the front of the output, or why it put none.
-#[derive(Drop)]
+#[derive(Clone, Copy)]
 pub enum Written {
     Bytes(usize),
     Refused(Fault),
 }
 
 // The times of a run's cycle: all 0 where it is refused.
-#[derive(Drop)]
+#[derive(Clone, Copy)]
 pub struct Run {
     pub judged: Judged,
     pub times: [Seconds; DEPARTURES],

@@ -1,4 +1,6 @@
 // Lists that are made by moving the clock: a list that is the one before it so moved, and one that is moved in place.
+#![tactic(auto)]
+
 ghost use Rattle.std.specs.Prelude.{◌≡◌, true, map, ◌*◌, ◌≤◌, ◌+ℤ◌, nat_abs, drop};
 ghost use Rattle.model.specs.Sizes.{zone_size};
 ghost use Rattle.model.specs.Bound.{most, plus};
@@ -11,7 +13,7 @@ use ints::{Seconds, ZERO};
 use memory::{NONE, zone_size};
 
 // That a list is the one before it with the clock moved, and by how much.
-#[derive(Drop)]
+#[derive(Clone, Copy)]
 pub struct Moved {
     pub some: bool,
     pub by: Seconds,

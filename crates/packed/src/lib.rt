@@ -1,4 +1,6 @@
 // Reads a packed case: a bit cursor by value, fields most significant bit first, entries in file order.
+#![tactic(auto)]
+
 ghost use Rattle.std.specs.Prelude.{◌≡◌, ℕ, ◌+◌, ◌*◌, ◌^◌, ◌≤◌, ◌<◌, [], length};
 ghost use Rattle.model.specs.Sizes.{time_width, most_width, most_bits};
 ghost use Rattle.model.specs.Forms.{old, wide};
@@ -25,20 +27,20 @@ const BOUND_SIGN: u32 = 1 << (BOUND_WIDTH - 1);
 const MARK: u32 = 1 << BOUND_WIDTH;
 
 // The place of the next bit.
-#[derive(Drop)]
+#[derive(Clone, Copy)]
 struct Cursor {
     at: usize,
 }
 
 // Some bits read, with the next cursor, or the case ends before their end.
-#[derive(Drop)]
+#[derive(Clone, Copy)]
 enum Field {
     Got(u32, Cursor),
     Ends,
 }
 
 // The number of an entry, with the next cursor, where its presence bit is 1.
-#[derive(Drop)]
+#[derive(Clone, Copy)]
 enum NumberRead {
     Present(u32, Cursor),
     Absent(Cursor),
@@ -46,35 +48,35 @@ enum NumberRead {
 }
 
 // A time read, with the next cursor, or its fault.
-#[derive(Drop)]
+#[derive(Clone, Copy)]
 enum SlotRead {
     Got(Slot, Cursor),
     Faulty(Fault),
 }
 
 // A bound read, with the next cursor, or its fault.
-#[derive(Drop)]
+#[derive(Clone, Copy)]
 enum LimitRead {
     Got(Limit, Cursor),
     Faulty(Fault),
 }
 
 // What comes next starts here, or the first fault.
-#[derive(Drop)]
+#[derive(Clone, Copy)]
 enum Next {
     At(Cursor),
     Faulty(Fault),
 }
 
 // The entries of the table as far as they were read.
-#[derive(Drop)]
+#[derive(Clone, Copy)]
 struct SlotsRead {
     slots: [Slot; BOUNDS],
     next: Next,
 }
 
 // The bounds of a pattern as far as they were read.
-#[derive(Drop)]
+#[derive(Clone, Copy)]
 struct LimitsRead {
     limits: [Limit; BOUNDS],
     next: Next,

@@ -1,4 +1,6 @@
 // Writes a packed case: a pen by value, fields most significant bit first, entries in file order. Nothing is written before the last fault is excluded.
+#![tactic(auto)]
+
 ghost use Rattle.std.specs.Prelude.{◌≡◌, map, ℕ, ◌+◌, ◌-◌, ◌*◌, ◌^◌, ◌≤◌, ◌<◌, length, take, nat_abs};
 ghost use Rattle.model.specs.Sizes.{most_bounds, bound_width, most_width};
 ghost use Rattle.model.specs.Forms.{old, wide};
@@ -16,7 +18,7 @@ use model::{
 };
 
 // The bits of an entry's mark and of its value.
-#[derive(Drop)]
+#[derive(Clone, Copy)]
 struct Widths {
     mark: usize,
     value: usize,
@@ -29,7 +31,7 @@ const TIME: Widths = Widths {
 };
 
 // How far the writing got: the bytes that are full, how many bits are held for the next one, and the number that these spell.
-#[derive(Drop)]
+#[derive(Clone, Copy)]
 struct Pen {
     full: usize,
     held: usize,

@@ -1,5 +1,7 @@
 // The powers of a table in memory: one made from the one before it, and the first repeated one. For that the powers stand side by side in one flat array of
 // numbers, made by a repeat expression: power r + 1 at place r, that is, from number r * (n * n) on.
+#![tactic(auto)]
+
 ghost use Rattle.std.specs.Prelude.{◌≡◌, ◌&&◌, ◌+◌, ◌*◌, ◌≤◌, ◌<◌, ◌-ℤ◌, nat_abs, length, take, drop, get_or};
 ghost use Rattle.model.specs.Sizes.{few_departures, table_size};
 ghost use Rattle.model.specs.Lists.{same_lists};
@@ -13,7 +15,7 @@ use memory::NONE;
 use model::{CYCLES, FEW, TIMES};
 
 // Power q is power p with number added.
-#[derive(Drop)]
+#[derive(Clone, Copy)]
 pub struct Again {
     pub q: usize,
     pub p: usize,
@@ -21,7 +23,7 @@ pub struct Again {
 }
 
 // The first repeated power, or none among the first CYCLES.
-#[derive(Drop)]
+#[derive(Clone, Copy)]
 pub enum Repeated {
     None,
     At(Again),

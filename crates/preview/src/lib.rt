@@ -1,4 +1,6 @@
 // One time of a table replaced or blanked: the verdict before it is committed, and the case afterwards.
+#![tactic(auto)]
+
 ghost use Rattle.std.specs.Prelude.{◌≡◌, ◌||◌};
 ghost use Rattle.std.proofs.Math.Option.{none};
 ghost use Rattle.model.specs.declared.Fault.TheVariants as fault;

@@ -1,4 +1,6 @@
 // Puts bytes, words and numbers into a buffer of any length, from a place on: each function gives the place after what it put.
+#![tactic(auto)]
+
 ghost use Rattle.std.specs.Prelude.{◌≡◌, [], ◌∷◌, ◌+◌, ◌≤◌, ◌<◌, length, nat_abs};
 ghost use Rattle.puts.specs.Decimal.{number, signed_number, most_digits, most_signed, SignedRoom};
 ghost use Rattle.puts.specs.Written.{Puts, PutsWithin};

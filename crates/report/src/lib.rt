@@ -1,4 +1,6 @@
 // What a planner sees: the text of the answer to a packed case, put together in a buffer.
+#![tactic(auto)]
+
 ghost use Rattle.model.specs.Sizes.{most_departures, most_bytes};
 ghost use Rattle.std.specs.Prelude.{◌≡◌, List, ◌++◌, ℕ, ◌+◌, ◌*◌, ◌≤◌, ◌<◌, length, take};
 ghost use Rattle.model.specs.Search.{parts_of};

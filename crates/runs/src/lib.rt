@@ -1,4 +1,6 @@
 // A run: the departure times of one cycle, from some start times on, in seconds or in parts of a second.
+#![tactic(auto)]
+
 ghost use Rattle.std.specs.Prelude.{◌≡◌, ◌+◌, ◌≤◌, ◌<◌, ◌^◌, pos, ◌*ℤ◌, nat_abs};
 ghost use Rattle.std.specs.Int.{w64};
 ghost use Rattle.std.proofs.Common.{SFits};

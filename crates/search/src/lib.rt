@@ -1,5 +1,7 @@
 // The search: list after list, until one meets the start, the table is full, no zone is left, or the cycles are searched. Where a list is the one
 // before it with the clock moved, so is each later one, and no more lists are made.
+#![tactic(auto)]
+
 ghost use Rattle.std.specs.Prelude.{◌≡◌, [], true, suc, ◌-◌, ◌≤◌, length, drop};
 ghost use Rattle.model.specs.Sizes.{zone_size};
 ghost use Rattle.model.specs.Answers.{answered, all_times};
@@ -13,14 +15,14 @@ use lists::Found;
 use model::{Answer, DEPARTURES, Fault, Verdict};
 
 // What getting past the last cycle means.
-#[derive(Drop)]
+#[derive(Clone, Copy)]
 pub enum End {
     Clear(Cycle),
     Never,
 }
 
 // What a list says: the search ends with this answer, or goes on with a list of count zones.
-#[derive(Drop)]
+#[derive(Clone, Copy)]
 struct Step {
     ended: bool,
     count: usize,
@@ -108,7 +110,7 @@ fn one_cycle(
 }
 
 // A search: Z, n, what a start is in, how many cycles are searched, what getting past them means.
-#[derive(Drop)]
+#[derive(Clone, Copy)]
 struct Task {
     capacity: usize,
     n: usize,

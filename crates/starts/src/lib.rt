@@ -1,4 +1,6 @@
 // Sets of times over numbers of 64 bits: one more constraint in place, a zone in whole parts of a second, the start that is picked.
+#![tactic(auto)]
+
 ghost use Rattle.std.specs.Prelude.{◌≡◌, suc, ◌+◌, ◌*◌, ◌≤◌, ◌<◌, length, take, set};
 ghost use Rattle.std.proofs.Math.Option.{some};
 ghost use Rattle.model.specs.Sizes.{most_departures, most_numbers, zone_size};

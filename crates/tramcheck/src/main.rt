@@ -1,4 +1,6 @@
 // Reads one packed case from standard input and prints the verdict on it.
+#![tactic(auto)]
+
 mod input;
 mod output;
 mod waiting;

@@ -16,6 +16,8 @@
 //   run from 0 -1, cycle 2     a run; run in parts from: a run in parts of a second
 //   output 13, wide output 13  the case written to as many bytes
 // What cannot be read, or lends more than there is, is answered by NOT READ, and nothing is called.
+#![tactic(auto)]
+
 mod answers;
 mod call;
 mod text;

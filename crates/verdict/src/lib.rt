@@ -1,4 +1,6 @@
 // Verdicts: a case is judged, then searched, and the workspace is left all zero.
+#![tactic(auto)]
+
 ghost use Rattle.std.specs.Prelude.{◌≡◌, ◌≤◌, ◌<◌, length, replicate, pos};
 ghost use Rattle.model.specs.Sizes.{most_cycles};
 ghost use Rattle.model.specs.Search.{plan_with, outcome};
@@ -14,7 +16,7 @@ use powers::Repeated;
 use search::End;
 
 // How many cycles are searched, and what getting past them means.
-#[derive(Drop)]
+#[derive(Clone, Copy)]
 struct Plan {
     cycles: Cycle,
     end: End,

@@ -1,4 +1,6 @@
 // Zones in memory: one more constraint in place, what a row of a preimage adds, what a zone has in common with a pattern.
+#![tactic(auto)]
+
 ghost use Rattle.std.specs.Prelude.{◌≡◌, true, suc, ◌≤◌, ◌<◌, nat_abs, length};
 ghost use Rattle.model.specs.Sizes.{most_times_at_once, zone_size};
 ghost use Rattle.model.specs.Bound.{plus, tighter};
@@ -18,7 +20,7 @@ use ints::{Seconds, ZERO};
 use memory::{Halves, NONE, Number, bound_at, diagonal, pair_bound, place, put, time_at};
 
 // The column of a row in a selection.
-#[derive(Drop)]
+#[derive(Clone, Copy)]
 pub struct Choice {
     pub row: usize,
     pub column: usize,

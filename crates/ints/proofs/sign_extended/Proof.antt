@@ -10,17 +10,17 @@ use Rattle.ints.proofs.Integers.{ints, pos_ud, neg_ud, sub_ud, opposite_fits, op
 use Rattle.ints.proofs.sign_extended.Statement.{statement}
 use Rattle.ints.proofs.sign_extended.Tie as tie
 
-sub-result-2 : tie.Need-overflow-sub-result-2
+sub-result-2 : tie.Need-overflow_sub-result-else-raw-half
 sub-result-2 c =
     let a = c.before.args in
     opposite_fits w32 (a.half * 2 - a.raw) (omega arith)
 
-returns : tie.Need-returns
+returns : tie.Need-returns-then-raw-half
 returns c =
     let a = c.before.args in
     rw (lt-ltb a.raw a.half (omega arith)) (to_z_pos w32 a.raw (omega arith))
 
-returns-2 : tie.Need-returns-2
+returns-2 : tie.Need-returns-else-raw-half
 returns-2 c =
     let a = c.before.args in
     let raw = a.raw in

@@ -25,21 +25,21 @@ above {x} {y} {z} n e f h =
     same_test (lt_z z y) (ltb n (nat_abs x)) (omega (ints, lt-ltb, le-ltb, abs_ud x, pos_ud n, pos_ud 0))
 
 -- the number is read back from its bits
-told : (c : tie.After-struct-told) → let x = c.before.before.args.self.0 in to_z w64 (of_z w64 x) ≡ x
+told : (c : tie.After-struct_told-1) → let x = c.before.before.args.self.0 in to_z w64 (of_z w64 x) ≡ x
 told c = search rules
 
-sub-result : tie.Need-overflow-sub-result
+sub-result : tie.Need-overflow_sub-result
 sub-result c = opposite_fits w64 c.before.before.before.args.limit (omega arith)
 
-returns : tie.Need-returns
+returns : tie.Need-returns-then-self-lt0
 returns c =
     let n = c.before.before.before.before.before.args.limit in
-    below n (told c.before.before.before) (opposite w64 n (omega arith)) c.before.before.if1.true
+    below n (told c.before.before.before) (opposite w64 n (omega arith)) c.before.before.if-self-lt0.true
 
-returns-2 : tie.Need-returns-2
+returns-2 : tie.Need-returns-else-self-lt0
 returns-2 c =
     let n = c.before.before.before.before.before.args.limit in
-    above n (told c.before.before.before) (to_z_pos w64 n (omega arith)) c.before.before.if1.false
+    above n (told c.before.before.before) (to_z_pos w64 n (omega arith)) c.before.before.if-self-lt0.false
 
 pub beyond_spec : {M : Type 1} → statement M
 beyond_spec = tie.close (tie.spec (λ c. search rules) sub-result (λ c. search rules) returns returns-2)

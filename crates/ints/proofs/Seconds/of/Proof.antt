@@ -10,7 +10,7 @@ use Rattle.ints.proofs.Seconds.of.Tie as tie
 wide : (c : tie.Start) → SFits w64 c.args.value
 wide c = fits (omega (arith, range c.ranges.value))
 
-cast-t2 : tie.Need-overflow-cast-t2
+cast-t2 : tie.Need-overflow_cast-result
 cast-t2 c = simp (to_z-of_z, c.ranges.value) (wide c)
 
 returns : tie.Need-returns

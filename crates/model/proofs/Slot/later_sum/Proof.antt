@@ -29,31 +29,31 @@ chosen a z e = rw (← e) (go a.value.0 a.has)
     go x false = refl
     go x true = elim (le_z x z) as (λ u. cond (not u) (secs x) (secs z) ≡ cond u (secs z) (secs x)) [ true ↦ refl | false ↦ refl ]
 
-returns : tie.Need-returns
+returns : tie.Need-returns-then-not-first-second
 returns c =
     let a = c.before.before.before.args in
     let t = time_of a.self in
-    rw (sum a.first a.second (not-true _ c.if1.true)) (sym (later_comm t blank ∙ later_blank t))
+    rw (sum a.first a.second (not-true _ c.if-not-first-second.true-raw)) (sym (later_comm t blank ∙ later_blank t))
 
 -- both are times
-both : (c : tie.Else1) →
+both : (c : tie.Else-not-first-second) →
     let a = c.before.before.before.args in
     after (time_of a.first) (time_of a.second) ≡ secs (a.first.value.0 +ℤ a.second.value.0)
-both c = let a = c.before.before.before.args in sum a.first a.second (not-false _ c.if1.false)
+both c = let a = c.before.before.before.args in sum a.first a.second (not-false _ c.if-not-first-second.false-raw)
 
-plus-requires : tie.Need-plus-requires
+plus-requires : tie.Need-plus-sum-requires
 unfolding secs_of
-plus-requires c κs = rw (both c) at c.before.before.before.requires
+plus-requires c κs = rw (both c.before.before) at c.before.before.before.before.before.requires
 
 -- what is returned, by the second test
-later_is : (c : tie.After-at-most) {t : Bool} →
-    let p = c.before in
-    let a = p.before.before.before.before.args in
+later_is : (c : tie.After-at_most) {t : Bool} →
+    let p = c.before.before in
+    let a = p.before.before.before.before.before.before.args in
     (a.self.has && not c.at_most.result) ≡ t
-    → cond t (time_of a.self) (secs p.plus.result.0) ≡ later (time_of a.self) (after (time_of a.first) (time_of a.second))
+    → cond t (time_of a.self) (secs p.plus-sum.result.0) ≡ later (time_of a.self) (after (time_of a.first) (time_of a.second))
 later_is c e =
-    let p = c.before in
-    rw (both p.before, ← p.plus.ensures) (chosen p.before.before.before.before.args.self _ (rw c.at_most.ensures at e))
+    let p = c.before.before in
+    rw (both p.before.before.before, ← p.plus-sum.ensures) (chosen p.before.before.before.before.before.before.args.self _ (rw c.at_most.ensures at e))
 
 pub later_sum_spec : {M : Type 1} → statement M
 unfolding time_of
@@ -63,5 +63,5 @@ later_sum_spec =
     returns
     plus-requires
     (λ c κs. search rules)
-    (λ c. later_is c.before.before c.if2.true)
-    (λ c. later_is c.before.before c.if2.false))
+    (λ c. later_is c.before.before c.if-self-at_most.true)
+    (λ c. later_is c.before.before c.if-self-at_most.false))
