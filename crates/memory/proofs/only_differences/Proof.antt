@@ -21,23 +21,23 @@ use Rattle.memory.proofs.only_differences.Tie as tie
 abbrev rest : ℕ → List Bound → ℕ → Bool
 rest n b j = all_of (λ i. is_none (pair_bound n b 0 i) && is_none (pair_bound n b i 0)) (from (λ i. i) (suc n) j)
 
-abbrev invariant-loop : tie.invariant-loop
+abbrev invariant-loop : tie.invariant-loop-j
 invariant-loop pattern n j₀ j = (1 ≤ j) × (j ≤ suc n) × (only_differences n (bounds_in pattern) ≡ rest n (bounds_in pattern) j)
 
-abbrev decreases-loop : tie.decreases-loop
+abbrev decreases-loop : tie.decreases-loop-j
 decreases-loop pattern n j₀ j = suc n - j
 
-loop-holds : tie.Need-loop-init invariant-loop decreases-loop
+loop-holds : tie.Need-loop-j-init invariant-loop decreases-loop
 unfolding only_differences
 loop-holds c = let n = c.args.n in (omega arith, omega arith, ap (all_of _) (from_first (λ i. i) n 1 (suc n) (omega arith)))
 
-pair-bound-requires : tie.Need-pair-bound-requires invariant-loop decreases-loop
+pair-bound-requires : tie.Need-pair_bound-from-requires invariant-loop decreases-loop
 pair-bound-requires c κs = omega arith
 
-pair-bound-requires-2 : tie.Need-pair-bound-requires-2 invariant-loop decreases-loop
+pair-bound-requires-2 : tie.Need-pair_bound-to-requires invariant-loop decreases-loop
 pair-bound-requires-2 c κs = omega arith
 
-enum_told : tie.Need-enum-told invariant-loop decreases-loop
+enum_told : tie.Need-enum_told-1 invariant-loop decreases-loop
 enum_told c = search rules
 
 -- a number that was read
@@ -49,57 +49,51 @@ unfolding is_none
 bounded z = rw (halved z).is
 
 -- the two numbers of departure j, and the departures behind
-step : (c : tie.After-pair-bound2 invariant-loop decreases-loop) →
-    let l = c.before.before.before in
-    let n = l.before.args.n in
-    let b = bounds_in l.before.args.pattern.now in
-    only_differences n b ≡ ((is_none (pair_bound n b 0 l.loop.j) && is_none (pair_bound n b l.loop.j 0)) && rest n b (l.loop.j + 1))
+step : (c : tie.After-pair_bound-to invariant-loop decreases-loop) →
+    let n = c.args.n in
+    let b = bounds_in c.args.pattern.now in
+    only_differences n b ≡ ((is_none (pair_bound n b 0 c.loop-j.j) && is_none (pair_bound n b c.loop-j.j 0)) && rest n b (c.loop-j.j + 1))
 unfolding all_of
-step c = let l = c.before.before.before in l.loop.invariant.2 ∙ ap (all_of _) (from_next (λ i. i) _ _ (omega arith))
+step c = c.loop-j.invariant.2 ∙ ap (all_of _) (from_next (λ i. i) _ _ (omega arith))
 
-returns : tie.Need-returns invariant-loop decreases-loop
+returns : tie.Need-returns-in-Upto invariant-loop decreases-loop
 unfolding is_none
 returns c =
-    let t = c.before.before in
-    sym (rw (read t.before.pair-bound.ensures c.enum_told.given.1, bounded c.enum_told.given.0.0.0) at (step t))
+    sym (rw (read c.pair_bound-from.ensures c.in-Upto.is, bounded c.in-Upto.field-0.0) at (step c.before))
 
-enum-told-2 : tie.Need-enum-told-2 invariant-loop decreases-loop
+enum-told-2 : tie.Need-enum_told-in_default invariant-loop decreases-loop
 enum-told-2 c = search rules
 
-enum-told-3 : tie.Need-enum-told-3 invariant-loop decreases-loop
+enum-told-3 : tie.Need-enum_told-in-Upto-to invariant-loop decreases-loop
 enum-told-3 c = search rules
 
-returns-2 : tie.Need-returns-2 invariant-loop decreases-loop
+returns-2 : tie.Need-returns-in-Upto-to invariant-loop decreases-loop
 unfolding is_none
 returns-2 c =
-    let f = c.before.before in
-    let t = f.before.before in
-    let from = read t.before.pair-bound.ensures f.enum-told2.given.1 in
-    let to = read t.pair-bound2.ensures c.enum-told3.given.1 in
-    sym (rw (from, to, bounded c.enum-told3.given.0.0.0) at (step t))
+    let from = read c.pair_bound-from.ensures c.in_default.is in
+    let to = read c.pair_bound-to.ensures c.in-Upto-to.is in
+    sym (rw (from, to, bounded c.in-Upto-to.field-0.0) at (step c.before.before))
 
-enum-told-4 : tie.Need-enum-told-4 invariant-loop decreases-loop
+enum-told-4 : tie.Need-enum_told-in_default-to invariant-loop decreases-loop
 enum-told-4 c = search rules
 
-add-j : tie.Need-overflow-add-j invariant-loop decreases-loop
+add-j : tie.Need-overflow_add-j invariant-loop decreases-loop
 add-j c = omega arith
 
-loop-less : tie.Need-loop-smaller invariant-loop decreases-loop
+loop-less : tie.Need-loop-j-smaller invariant-loop decreases-loop
 loop-less c = omega arith
 
-loop-again : tie.Need-loop-preserved invariant-loop decreases-loop
+loop-again : tie.Need-loop-j-preserved invariant-loop decreases-loop
 unfolding is_none
-loop-again c =
-    let f = c.before.before in
-    let t = f.before.before in (
-      omega arith,
-      omega arith,
-      rw (read t.before.pair-bound.ensures f.enum-told2.given.1, read t.pair-bound2.ensures c.enum-told4.given.1) at (step t),
-    )
+loop-again c = (
+  omega arith,
+  omega arith,
+  rw (read c.pair_bound-from.ensures c.in_default.is, read c.pair_bound-to.ensures c.in_default-to.is) at (step c.before.before),
+)
 
-returns-3 : tie.Need-returns-3 invariant-loop decreases-loop
+returns-3 : tie.Need-returns invariant-loop decreases-loop
 unfolding all_of
-returns-3 c = sym (c.before.loop.invariant.2 ∙ ap (all_of _) (from_end (λ i. i) _ _ (omega arith)))
+returns-3 c = sym (c.loop-j.invariant.2 ∙ ap (all_of _) (from_end (λ i. i) _ _ (omega arith)))
 
 pub only_differences_spec : {M : Type 1} → statement M
 only_differences_spec =

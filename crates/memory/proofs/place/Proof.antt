@@ -5,10 +5,10 @@ use Rattle.memory.proofs.Places.{in_rows, few_places}
 use Rattle.memory.proofs.place.Statement.{statement}
 use Rattle.memory.proofs.place.Tie as tie
 
-mul-result : tie.Need-overflow-mul-result
+mul-result : tie.Need-overflow_mul-result
 mul-result c = omega (arith, few_places c.args.m c.args.i c.args.j c.requires.0 c.requires.1 c.requires.2)
 
-add-result : tie.Need-overflow-add-result
+add-result : tie.Need-overflow_add-result
 add-result c = omega (arith, few_places c.args.m c.args.i c.args.j c.requires.0 c.requires.1 c.requires.2)
 
 returns : tie.Need-returns

@@ -11,19 +11,18 @@ use Rattle.memory.proofs.Numbers.{test_none, test_other, small_read}
 use Rattle.memory.proofs.time_of.Statement.{statement}
 use Rattle.memory.proofs.time_of.Tie as tie
 
-returns : tie.Need-returns
+returns : tie.Need-returns-then-raw-eq-NONE
 unfolding time_in time_of secs_of
 returns c =
-    let e = test_none c.before.args.raw c.before.ranges.raw c.if1.true in
+    let e = test_none c.args.raw c.ranges.raw c.if-raw-eq-NONE.true in
     rw e (record { is = refl; value = refl; small = omega arith })
 
-returns-2 : tie.Need-returns-2
+returns-2 : tie.Need-returns
 unfolding time_in time_of secs_of
 returns-2 c =
-    let s = c.before.before in
-    let z = s.args.raw in
-    let is : c.of.result.0 ≡ z = c.of.ensures ∙ to_z-of_z w32 z s.ranges.raw in
-    rw (test_other z c.before.if1.false) (record { is = ap secs is; value = is; small = small_read z s.ranges.raw })
+    let z = c.args.raw in
+    let is : c.of.result.0 ≡ z = c.of.ensures ∙ to_z-of_z w32 z c.ranges.raw in
+    rw (test_other z c.if-raw-eq-NONE.false) (record { is = ap secs is; value = is; small = small_read z c.ranges.raw })
 
 pub time_of_spec : {M : Type 1} → statement M
 time_of_spec = tie.close (tie.spec returns (λ c κs. search rules) returns-2)

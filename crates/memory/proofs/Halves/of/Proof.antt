@@ -31,27 +31,25 @@ plain z = omega (ints, add_ud z z, sub_ud (z +ℤ z) (pos 0), pos_ud 0)
 fits_twice : (s : tie.Start) → let z = s.args.value.0 in SFits w64 (to_z w64 (of_z w64 z) +ℤ to_z w64 (of_z w64 z))
 fits_twice s = let z = s.args.value.0 in rw (told z s.requires) (twice z s.requires)
 
-returns : tie.Need-returns
+returns : tie.Need-returns-then-strict
 unfolding halves bit
 returns c =
-    let s = c.before.before.before in
-    let z = s.args.value.0 in
-    rw (told z s.requires, to_z-of_z w64 (z +ℤ z) (twice z s.requires), to_z-of_z w64 ((z +ℤ z) -ℤ pos 1) (less_one z s.requires), c.before.before.if1.true)
+    let z = c.args.value.0 in
+    rw (told z c.requires, to_z-of_z w64 (z +ℤ z) (twice z c.requires), to_z-of_z w64 ((z +ℤ z) -ℤ pos 1) (less_one z c.requires), c.if-strict.true)
     (of_halves_lem true z)
 
-returns-2 : tie.Need-returns-2
+returns-2 : tie.Need-returns
 returns-2 c =
-    let s = c.before.before.before in
-    let z = s.args.value.0 in
-    rw (told z s.requires, to_z-of_z w64 (z +ℤ z) (twice z s.requires), c.before.before.if1.false, plain z) (of_halves_lem false z)
+    let z = c.args.value.0 in
+    rw (told z c.requires, to_z-of_z w64 (z +ℤ z) (twice z c.requires), c.if-strict.false, plain z) (of_halves_lem false z)
 
 pub of_spec : {M : Type 1} → statement M
 of_spec =
     tie.close
     (tie.spec
     (λ c. fits_twice c.before.before.before)
-    (λ c. let s = c.before.before.before in let z = s.args.value.0 in
-    rw (told z s.requires, to_z-of_z w64 (z +ℤ z) (twice z s.requires)) (less_one z s.requires))
+    (λ c. let z = c.args.value.0 in
+    rw (told z c.requires, to_z-of_z w64 (z +ℤ z) (twice z c.requires)) (less_one z c.requires))
     returns
     (λ c. fits_twice c.before.before.before)
     returns-2)

@@ -22,26 +22,22 @@ module _ (u v : ℤ) (s : Small Widest (plus (of_halves u) (of_halves v))) where
       fits (omega (ints, abs_ud (u +ℤ v), abs_ud ((u +ℤ v) +ℤ pos o), add_ud (u +ℤ v) (pos o), pos_ud o, odd_one u v))
 
 -- both numbers were read
-fits_self : (c : tie.After-struct-told2) → SFits w64 c.before.before.before.before.args.self.0
+fits_self : (c : tie.After-struct_told-2-1) → SFits w64 c.args.self.0
 fits_self c = search rules
 
-fits_other : (c : tie.After-struct-told2) → SFits w64 c.before.before.before.before.args.other.0
+fits_other : (c : tie.After-struct_told-2-1) → SFits w64 c.args.other.0
 fits_other c = search rules
 
-add-t3 : tie.Need-overflow-add-t3
-add-t3 c = let s = c.before.before.before.before in first_fits _ _ (fits_self c) (fits_other c) (sum _ _ s.requires) (total _ _ s.requires)
+add-t3 : tie.Need-overflow_add-result
+add-t3 c = first_fits _ _ (fits_self c) (fits_other c) (sum _ _ c.requires) (total _ _ c.requires)
 
-add-t6 : tie.Need-overflow-add-t6
+add-t6 : tie.Need-overflow_add-result-2
 add-t6 c =
-    let t = c.before.before.before.before in
-    let s = t.before.before.before.before in
-    second_fits _ _ (fits_self t) (fits_other t) (sum _ _ s.requires) (total _ _ s.requires)
+    second_fits _ _ (fits_self c.before.before.before.before) (fits_other c.before.before.before.before) (sum _ _ c.requires) (total _ _ c.requires)
 
 returns : tie.Need-returns
 returns c =
-    let t = c.before.before.before.before in
-    let s = t.before.before.before.before in
-    sum_told _ _ (fits_self t) (fits_other t) (sum _ _ s.requires) (total _ _ s.requires)
+    sum_told _ _ (fits_self c.before.before.before.before) (fits_other c.before.before.before.before) (sum _ _ c.requires) (total _ _ c.requires)
 
 pub plus_spec : {M : Type 1} → statement M
 plus_spec = tie.close (tie.spec add-t3 add-t6 returns)

@@ -10,5 +10,5 @@ difference_spec =
     tie.close
     (tie.spec
     (λ c κs. wide _ c.requires)
-    (λ c κs. rw c.minus.ensures c.before.requires)
-    (λ c. c.of.ensures ∙ ap most c.before.minus.ensures))
+    (λ c κs. rw c.minus.ensures c.requires)
+    (λ c. c.of.ensures ∙ ap most c.minus.ensures))

@@ -7,20 +7,20 @@ use Rattle.memory.proofs.InHalves.{halves_le}
 use Rattle.memory.proofs.Number.implies.Statement.{statement}
 use Rattle.memory.proofs.Number.implies.Tie as tie
 
-enum_told : tie.Need-enum-told
+enum_told : tie.Need-enum_told-1
 enum_told c = search rules
 
-enum-known-self : tie.Need-enum-known-self
+enum-known-self : tie.Need-enum_known-self
 enum-known-self c = search rules
 
-at-most-requires : tie.Need-at-most-requires
+at-most-requires : tie.Need-at_most-requires
 at-most-requires c κs = search rules
 
-returns : tie.Need-returns
+returns : tie.Need-returns-in-Blank
 returns c e = let z : ◌≡◌ {A = ℕ} 0 1 = cc in absurd (omega bounds)
 
-returns-2 : tie.Need-returns-2
-returns-2 c e = rw c.before.before.self.given.1 (halves_le _ _ (sym c.at_most.ensures ∙ e))
+returns-2 : tie.Need-returns-in-Upto
+returns-2 c e = rw c.in-Upto.is (halves_le _ _ (sym c.at_most.ensures ∙ e))
 
 pub implies_spec : {M : Type 1} → statement M
 implies_spec = tie.close (tie.spec enum_told enum-known-self at-most-requires returns returns-2)

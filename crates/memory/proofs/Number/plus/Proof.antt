@@ -6,22 +6,20 @@ use Rattle.memory.proofs.InHalves.{plus_blank}
 use Rattle.memory.proofs.Number.plus.Statement.{statement}
 use Rattle.memory.proofs.Number.plus.Tie as tie
 
-returns : tie.Need-returns
+returns : tie.Need-returns-in_default
 unfolding plus
-returns c = rw c.enum_told.given.1
+returns c = rw c.in_default.is
 
-returns-2 : tie.Need-returns-2
-returns-2 c = let k = c.before.before.before in rw (k.self.given.1, c.enum-told2.given.1) (sym (plus_blank _))
+returns-2 : tie.Need-returns-in_default-other
+returns-2 c = rw (c.in-Upto.is, c.in_default-other.is) (sym (plus_blank _))
 
 plus-requires : tie.Need-plus-requires
 plus-requires c κs =
-    let k = c.before.before.before.before in
-    rw (k.self.given.1, c.before.other.given.1) at k.before.before.requires
+    rw (c.in-Upto.is, c.in-Upto-other.is) at c.requires
 
-returns-3 : tie.Need-returns-3
+returns-3 : tie.Need-returns
 returns-3 c =
-    let k = c.before.before.before.before.before in
-    rw (k.self.given.1, c.before.before.other.given.1) c.plus.ensures
+    rw (c.in-Upto.is, c.in-Upto-other.is) c.plus.ensures
 
 pub plus_spec : {M : Type 1} → statement M
 plus_spec =

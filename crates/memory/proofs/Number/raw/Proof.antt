@@ -13,28 +13,27 @@ use Rattle.memory.proofs.Numbers.{bound_stored, narrow}
 use Rattle.memory.proofs.Number.raw.Statement.{statement}
 use Rattle.memory.proofs.Number.raw.Tie as tie
 
-small : (c : tie.After-self) → HalvesWithin Limit c.self.given.0.0.0
-small c = halves_size _ (rw c.self.given.1 at c.before.before.requires)
+small : (c : tie.In-Upto) → HalvesWithin Limit c.in-Upto.c.0
+small c = halves_size _ (rw c.in-Upto.is at c.requires)
 
-fits_narrow : (c : tie.After-self) → SFits w32 c.self.given.0.0.0
+fits_narrow : (c : tie.In-Upto) → SFits w32 c.in-Upto.c.0
 fits_narrow c = narrow _ (omega (arith, small c)) (omega (arith, small c))
 
 -- the number is read back from its bits
-back : (c : tie.After-self) → let z = c.self.given.0.0.0 in to_z w64 (of_z w64 z) ≡ z
-back c = to_z-of_z w64 c.self.given.0.0.0 (fits (omega (arith, small c)))
+back : (c : tie.In-Upto) → let z = c.in-Upto.c.0 in to_z w64 (of_z w64 z) ≡ z
+back c = to_z-of_z w64 c.in-Upto.c.0 (fits (omega (arith, small c)))
 
-cast-result : tie.Need-overflow-cast-result
-cast-result c = let k = c.before.before.before in rw (back k) (fits_narrow k)
+cast-result : tie.Need-overflow_cast-result
+cast-result c = rw (back c.before.before) (fits_narrow c.before.before)
 
-returns : tie.Need-returns
+returns : tie.Need-returns-in-Blank
 unfolding bound_in same_z
-returns c = rw c.enum_told.given.1 refl
+returns c = rw c.in-Blank.is refl
 
-returns-2 : tie.Need-returns-2
+returns-2 : tie.Need-returns-in-Upto
 returns-2 c =
-    let k = c.before.before.before in
-    let z = k.self.given.0.0.0 in
-    rw (back k, to_z-of_z w32 z (fits_narrow k), k.self.given.1) (bound_stored z (omega (arith, small k)))
+    let z = c.in-Upto.c.0 in
+    rw (back c.before.before, to_z-of_z w32 z (fits_narrow c.before.before), c.in-Upto.is) (bound_stored z (omega (arith, small c.before.before)))
 
 pub raw_spec : {M : Type 1} → statement M
 raw_spec = tie.close (tie.spec (λ c. search rules) (λ c. search rules) cast-result returns returns-2)

@@ -11,23 +11,22 @@ use Rattle.memory.proofs.Numbers.{test_none, test_other, small_read}
 use Rattle.memory.proofs.Number.read.Statement.{statement}
 use Rattle.memory.proofs.Number.read.Tie as tie
 
-returns : tie.Need-returns
+returns : tie.Need-returns-then-raw-eq-NONE
 unfolding bound_in
-returns c = record { is = rw (test_none c.before.args.raw c.before.ranges.raw c.if1.true); small = free }
+returns c = record { is = rw (test_none c.args.raw c.ranges.raw c.if-raw-eq-NONE.true); small = free }
 
 wide : (s : tie.Start) → SFits w64 s.args.raw
 wide s = fits (omega (arith, range s.ranges.raw))
 
-cast-t3 : tie.Need-overflow-cast-t3
-cast-t3 c = let s = c.before in rw (to_z-of_z w32 s.args.raw s.ranges.raw) (wide s)
+cast-t3 : tie.Need-overflow_cast-result
+cast-t3 c = rw (to_z-of_z w32 c.args.raw c.ranges.raw) (wide c.before)
 
-returns-2 : tie.Need-returns-2
+returns-2 : tie.Need-returns
 unfolding bound_in
 returns-2 c =
-    let s = c.before in
-    let z = s.args.raw in
-    rw (to_z-of_z w32 z s.ranges.raw, to_z-of_z w64 z (wide s))
-    (record { is = rw (test_other z c.if1.false); small = size_halves z (small_read z s.ranges.raw) })
+    let z = c.args.raw in
+    rw (to_z-of_z w32 z c.ranges.raw, to_z-of_z w64 z (wide c.before))
+    (record { is = rw (test_other z c.if-raw-eq-NONE.false); small = size_halves z (small_read z c.ranges.raw) })
 
 pub read_spec : {M : Type 1} → statement M
 read_spec = tie.close (tie.spec returns cast-t3 returns-2)
