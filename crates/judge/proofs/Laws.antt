@@ -7,7 +7,7 @@ use native.Mathlib.Omega.{arith}
 use borrow.Author.Tests.{le-ltb}
 use mathlib.Core.List.{List, [], ◌∷◌, map}
 use mathlib.Core.Option.{Option, none, some}
-use mathlib.Core.Bool.{Bool, true, false, not, ◌&&◌, ◌||◌, cond, or_false, or_assoc}
+use mathlib.Core.Bool.{Bool, true, false, not, ◌&&◌, ◌||◌, cond, or-false, or_assoc}
 use lib.ListN.{length, take, drop, get_or, drop_of_length-le}
 use lib.Seq.{drop-cons, drop-drop, length-take-le, get_or-take}
 use Rattle.model.specs.declared.Slot.{Slot}
@@ -78,7 +78,7 @@ module _ {A : Type 0} {es : List A} {n : ℕ} {e : ℕ → A} {i : ℕ} (r : Wal
 
     pub some_all : {B : Type 0} {test : B → Bool} {read : A → B} {t : Bool} → SomeOf test read es i t → any_of test (map read es) ≡ t
     unfolding any_of
-    some_all {t} s = s.is ∙ rw walk_all (or_false t)
+    some_all {t} s = s.is ∙ rw walk_all (or-false t)
 
 module _ {A : Type 0} {judge : ℕ → A → Option Fault} {p : ℕ} {es : List A} {n : ℕ} {e : ℕ → A} {i : ℕ} (r : Passed judge p es n e i) where
   -- a turn

@@ -1,11 +1,11 @@
 -- Laws of the packed case's definition: what a reading gives and where it ends, one turn of each loop, and the array of entries.
 use mathlib.Core.Path.{◌≡◌, refl, sym, ap, ◌∙◌}
 use Prim.Native.Nat.{ℕ, suc, ◌+◌, ◌-◌, ◌*◌, ◌^◌, ◌≤◌, ◌<◌}
-use native.Mathlib.Nat.{suc-mul, mul_add}
+use native.Mathlib.Nat.{suc-mul, mul-add}
 use native.Mathlib.Numerals.{add-one}
 use native.Mathlib.Omega.{arith}
 use mathlib.Core.List.{List, [], ◌∷◌, ◌++◌, map, append_assoc, append-nil}
-use mathlib.Core.Bool.{Bool, true, false, cond, ◌||◌, or_false, or_assoc}
+use mathlib.Core.Bool.{Bool, true, false, cond, ◌||◌, or-false, or_assoc}
 use mathlib.Core.Option.{Option, none, some}
 use lib.Dec.{leb, eqb}
 use lib.ListN.{length, set, length-append}
@@ -136,7 +136,7 @@ module _ (s : List ℕ) (n i p : ℕ) where
 -- ---- a row with a time
 pub regular_more : (es : List Slot) (e : Slot) → regular (map time_of (es ++ e ∷ [])) ≡ (regular (map time_of es) || e.has)
 unfolding regular any_of
-regular_more [] e = or_false (is_time (time_of e)) ∙ has_time e
+regular_more [] e = or-false (is_time (time_of e)) ∙ has_time e
 regular_more (x ∷ es) e = rw or_assoc (ap (λ (b : Bool). is_time (time_of x) || b) (regular_more es e))
 
 -- ---- entries read into an array
@@ -165,7 +165,7 @@ module _ {A : Type 0} {k : Kind A} {w : ℕ} {s : List ℕ} {n first i next : �
         narrow = r.narrow;
         long = omega (arith, length-append read (e ∷ []));
         within = omega arith;
-        place = omega (arith, mul_add (suc w) i 1);
+        place = omega (arith, mul-add (suc w) i 1);
         rest = r.rest ∙ entries_turn k s n i next read h ∙ simp g;
       }
 

@@ -4,13 +4,13 @@ use Rattle.model.specs.Faults.{beyond}
 use Rattle.judge.proofs.beyond.Statement.{statement}
 use Rattle.judge.proofs.beyond.Tie as tie
 
-returns : tie.Need-returns
+returns : tie.Need-returns-then-slot
 unfolding beyond
-returns c = simp (c.before.if1.true, c.beyond.ensures)
+returns c = simp (c.if-slot.true, c.beyond.ensures)
 
-returns-2 : tie.Need-returns-2
+returns-2 : tie.Need-returns-else-slot
 unfolding beyond
-returns-2 c = simp c.if1.false
+returns-2 c = simp c.if-slot.false
 
 pub beyond_spec : {M : Type 1} → statement M
 beyond_spec = tie.close (tie.spec (λ c κs. search rules) returns returns-2)

@@ -8,24 +8,19 @@ use Rattle.judge.proofs.Laws.{Passed, walk_array, passed_none, passed_more, pass
 use Rattle.judge.proofs.bounds_fault.Statement.{statement}
 use Rattle.judge.proofs.bounds_fault.Tie as tie
 
-abbrev invariant-loop : tie.invariant-loop
+abbrev invariant-loop : tie.invariant-loop-i
 invariant-loop count offset form bounds i₀ i = Passed (bound_fault_in form) offset (take count bounds) count (λ j. get_or bounds j (unmarked nothing)) i
 
-abbrev decreases-loop : tie.decreases-loop
+abbrev decreases-loop : tie.decreases-loop-i
 decreases-loop count offset form bounds i₀ i = count - i
 
-returns : tie.Need-returns invariant-loop decreases-loop
+returns : tie.Need-returns-in-Refused invariant-loop decreases-loop
 returns c =
-    let f = c.before in
-    let b = f.before.before in
-    let u = b.before.before in
-    passed_refused u.before.loop.invariant u.loop-test.true (refused_for _ b.bound-fault.ensures f.f.given.1)
+    passed_refused c.loop-i.invariant c.loop-i-test.true (refused_for _ c.bound_fault.ensures c.in-Refused.is)
 
-loop-again : tie.Need-loop-preserved invariant-loop decreases-loop
+loop-again : tie.Need-loop-i-preserved invariant-loop decreases-loop
 loop-again c =
-    let b = c.before.before in
-    let u = b.before.before in
-    passed_more u.before.loop.invariant u.loop-test.true (accepted _ b.bound-fault.ensures c.enum_told.given.1)
+    passed_more c.loop-i.invariant c.loop-i-test.true (accepted _ c.bound_fault.ensures c.in_default.is)
 
 pub bounds_fault_spec : {M : Type 1} → statement M
 bounds_fault_spec =
@@ -33,7 +28,7 @@ bounds_fault_spec =
     (tie.spec
     invariant-loop
     decreases-loop
-    (λ c. passed_none (walk_array (unmarked nothing) c.args.count c.args.t1 (omega arith)))
+    (λ c. passed_none (walk_array (unmarked nothing) c.args.count c.args.bounds (omega arith)))
     -- the bound is read and judged
     (λ c. omega arith)
     (λ c. omega arith)
@@ -45,4 +40,4 @@ bounds_fault_spec =
     (λ c. omega arith)
     (λ c. search rules)
     loop-again
-    (λ c. passed_accepted c.before.loop.invariant c.loop-test.false))
+    (λ c. passed_accepted c.loop-i.invariant c.loop-i-test.false))

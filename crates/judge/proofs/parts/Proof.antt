@@ -14,26 +14,23 @@ use Rattle.judge.proofs.Laws.{pattern_size_lem, parts_are}
 use Rattle.judge.proofs.parts.Statement.{statement}
 use Rattle.judge.proofs.parts.Tie as tie
 
-returns : tie.Need-returns
+returns : tie.Need-returns-then-outside
 unfolding start_parts
-returns c = simp (sym c.before.outside.ensures ∙ c.if1.true)
+returns c = simp (sym c.outside.ensures ∙ c.if-outside.true)
 
-departures : (c : tie.Else1) → Departures c.before.before.args.case.n
+departures : (c : tie.Else-outside) → Departures c.args.case.n
 unfolding outside
-departures c = let facts = simp no_fault at (sym c.before.outside.ensures ∙ c.if1.false) in omega arith
+departures c = let facts = simp no_fault at (sym c.outside.ensures ∙ c.if-outside.false) in omega arith
 
 -- what the two tests found
-found : (c : tie.After-some-strict2) →
-    let d = c.before in
-    let a = d.before.before.before.before.before.args.case in
-    start_parts a ≡ cond (d.some-strict.result || c.some-strict2.result) (suc a.n) 1
+found : (c : tie.After-some_strict-2) →
+    let a = c.args.case in
+    start_parts a ≡ cond (c.some_strict.result || c.some_strict-2.result) (suc a.n) 1
 unfolding parts_of network
 found c =
-    let d = c.before in
-    let e = d.before.before.before in
-    let n = e.before.before.args.case.n in
-    let strict = rw (add-one n) at (ap₂ ◌||◌ d.some-strict.ensures c.some-strict2.ensures) in
-    parts_are _ (departures e) ∙ ap (λ (t : Bool). cond t (suc n) 1) (sym strict)
+    let n = c.args.case.n in
+    let strict = rw (add-one n) at (ap₂ ◌||◌ c.some_strict.ensures c.some_strict-2.ensures) in
+    parts_are _ (departures c.before.before.before.before) ∙ ap (λ (t : Bool). cond t (suc n) 1) (sym strict)
 
 pub parts_spec : {M : Type 1} → statement M
 parts_spec =
@@ -46,5 +43,5 @@ parts_spec =
     (λ c κs. omega (arith, pattern_size_lem (departures c.before.before)))
     (λ c κs. omega (arith, pattern_size_lem (departures c.before.before.before)))
     (λ c. omega (arith, departures c.before.before.before.before.before))
-    (λ c. add-one _ ∙ sym (rw c.if2.true at (found c.before)))
-    (λ c. sym (rw c.if2.false at (found c.before))))
+    (λ c. add-one _ ∙ sym (rw c.if-some_strict.true at (found c.before)))
+    (λ c. sym (rw c.if-some_strict.false at (found c.before))))

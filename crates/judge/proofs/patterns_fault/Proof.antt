@@ -8,19 +8,17 @@ use Rattle.judge.proofs.Laws.{first_refused, first_accepted, pattern_size_lem}
 use Rattle.judge.proofs.patterns_fault.Statement.{statement}
 use Rattle.judge.proofs.patterns_fault.Tie as tie
 
-returns : tie.Need-returns
+returns : tie.Need-returns-in-Refused
 unfolding patterns_fault
 returns c =
-    let d = c.before in
-    let n = d.before.before.before.before.before.args.case.n in
-    rw (← (add-one n)) (first_refused _ d.before.before.bounds-fault.ensures _ d.f.given.1)
+    let n = c.args.case.n in
+    rw (← (add-one n)) (first_refused _ c.bounds_fault.ensures _ c.in-Refused.is)
 
-returns-2 : tie.Need-returns-2
+returns-2 : tie.Need-returns
 unfolding patterns_fault
 returns-2 c =
-    let d = c.before in
-    let n = d.before.before.before.before.before.args.case.n in
-    rw (← (add-one n)) (c.bounds-fault2.ensures ∙ first_accepted _ d.before.before.bounds-fault.ensures _ d.enum_told.given.1)
+    let n = c.args.case.n in
+    rw (← (add-one n)) (c.bounds_fault-2.ensures ∙ first_accepted _ c.bounds_fault.ensures _ c.in_default.is)
 
 pub patterns_fault_spec : {M : Type 1} → statement M
 patterns_fault_spec =
@@ -28,9 +26,9 @@ patterns_fault_spec =
     (tie.spec
     (λ c. search rules)
     (λ c. omega (arith, pattern_size_lem c.requires))
-    (λ c κs. omega (arith, pattern_size_lem c.before.before.requires))
+    (λ c κs. omega (arith, pattern_size_lem c.requires))
     (λ c. search rules)
     returns
     (λ c. search rules)
-    (λ c κs. omega (arith, pattern_size_lem c.before.before.before.before.before.requires))
+    (λ c κs. omega (arith, pattern_size_lem c.requires))
     returns-2)

@@ -13,30 +13,30 @@ use Rattle.judge.specs.Judgement.{judged_by}
 use Rattle.judge.proofs.room_fault.Statement.{statement}
 use Rattle.judge.proofs.room_fault.Tie as tie
 
-returns : tie.Need-returns
+returns : tie.Need-returns-then-outside
 unfolding room_fault judged_by
-returns c = simp (sym c.before.outside.ensures ∙ c.if1.true)
+returns c = simp (sym c.outside.ensures ∙ c.if-outside.true)
 
-products : (c : tie.Else1) →
-    let a = c.before.before.args in
+products : (c : tie.Else-outside) →
+    let a = c.args in
     let zone = (a.n + 1) * (a.n + 1) in
     (zone ≤ most_numbers) × (a.capacity * zone ≤ most_zones * most_numbers)
 unfolding outside
 products c =
-    let a = c.before.before.args in
-    let facts = simp no_fault at (sym c.before.outside.ensures ∙ c.if1.false) in
+    let a = c.args in
+    let facts = simp no_fault at (sym c.outside.ensures ∙ c.if-outside.false) in
     let few : a.n + 1 ≤ most_departures + 1 = omega arith in
     let zones : a.capacity ≤ most_zones = omega arith in
     let zone = mul-le-mul few few in
     (zone, mul-le-mul zones zone)
 
-returns-2 : tie.Need-returns-2
+returns-2 : tie.Need-returns-then-size-capacity
 unfolding room_fault judged_by
-returns-2 c = let d = c.before in simp (sym d.before.outside.ensures ∙ d.if1.false, lt-ltb _ _ (rw add-one at c.if2.true))
+returns-2 c = simp (sym c.outside.ensures ∙ c.if-outside.false, lt-ltb _ _ (rw add-one at c.if-size-capacity.true))
 
-returns-3 : tie.Need-returns-3
+returns-3 : tie.Need-returns
 unfolding room_fault judged_by
-returns-3 c = let d = c.before in simp (sym d.before.outside.ensures ∙ d.if1.false, le-ltb _ _ (rw add-one at c.if2.false))
+returns-3 c = simp (sym c.outside.ensures ∙ c.if-outside.false, le-ltb _ _ (rw add-one at c.if-size-capacity.false))
 
 pub room_fault_spec : {M : Type 1} → statement M
 room_fault_spec =

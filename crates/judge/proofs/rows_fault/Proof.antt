@@ -29,14 +29,14 @@ record AtRow (n : ℕ) (times : List Slot) (judged : Judged) (row : ℕ) : Type 
   pub none_yet : judged ≡ judgement.Accepted
   pub rest : rows_fault n n 0 times ≡ rows_fault n (n - row) (row * n) (drop (row * n) times)
 
-abbrev invariant-loop : tie.invariant-loop
+abbrev invariant-loop : tie.invariant-loop-column
 invariant-loop n times judged₀ row first some₀ column₀ judged some column =
     let entries = take n (drop first times) in
     (judged ≡ judged₀)
     × Passed (over time_limit fault.Time) first entries n (λ j. get_or times (first + j) nothing) column
     × SomeOf is_time time_of entries column some
 
-abbrev decreases-loop : tie.decreases-loop
+abbrev decreases-loop : tie.decreases-loop-column
 decreases-loop n times judged₀ row first some₀ column₀ judged some column = n - column
 
 abbrev invariant-rows : tie.invariant-rows
@@ -51,64 +51,55 @@ rows-holds c =
     record { within = omega arith; none_yet = refl; rest = rw (z, zero-mul) refl }
 
 -- the row is within the table
-in_table : (c : tie.In-rows invariant-loop decreases-loop invariant-rows decreases-rows) → let n = c.before.before.args.n in c.before.rows.row * n + n ≤ most_times
-in_table c = row_fits c.before.before.requires c.rows-test.true
+in_table : (c : tie.In-rows invariant-loop decreases-loop invariant-rows decreases-rows) → let n = c.args.n in c.rows.row * n + n ≤ most_times
+in_table c = row_fits c.requires c.rows-test.true
 
-loop-holds : tie.Need-loop-init invariant-loop decreases-loop invariant-rows decreases-rows
+loop-holds : tie.Need-loop-column-init invariant-loop decreases-loop invariant-rows decreases-rows
 loop-holds c = (
   refl,
   passed_none (walk_none nothing (simp (length-take, length-drop) (omega (arith, in_table c))) (λ j h. rw (get_or-take, get_or-drop))),
   record { is = refl },
 )
 
-loop-again : tie.Need-loop-preserved invariant-loop decreases-loop invariant-rows decreases-rows
+loop-again : tie.Need-loop-column-preserved invariant-loop decreases-loop invariant-rows decreases-rows
 loop-again c =
-    let b = c.before.before in
-    let u = b.before.before in
-    let i = u.before.loop.invariant in
-    let t = u.loop-test.true in
-    let in_limit = (over_none time_limit fault.Time _ _).1 (sym b.beyond.ensures ∙ c.before.if1.false) in
+    let i = c.loop-column.invariant in
+    let t = c.loop-column-test.true in
+    let in_limit = (over_none time_limit fault.Time _ _).1 (sym c.beyond.ensures ∙ c.if-beyond.false) in
     (i.0, passed_more i.1 t in_limit, some_more i.1.walk t i.2 (has_time _))
 
 rows-again : tie.Need-rows-preserved invariant-loop decreases-loop invariant-rows decreases-rows
 unfolding regular
 rows-again c =
-    let o = c.before in
-    let l = o.before.loop in
-    let v = o.before.before in
-    let r = v.before.rows.invariant in
-    let some-time = some_all l.invariant.1.walk o.loop-test.false l.invariant.2 ∙ not-false l.some c.if2.false in
+    let l = c.loop-column in
+    let r = c.rows.invariant in
+    let some-time = some_all l.invariant.1.walk c.loop-column-test.false l.invariant.2 ∙ not-false l.some c.if-not-some.false-raw in
     record {
       within = omega arith;
       none_yet = l.invariant.0 ∙ r.none_yet;
-      rest = r.rest ∙ rows_turn _ _ _ v.rows-test.true ∙ simp (passed_all l.invariant.1 o.loop-test.false, some-time);
+      rest = r.rest ∙ rows_turn _ _ _ c.rows-test.true ∙ simp (passed_all l.invariant.1 c.loop-column-test.false, some-time);
     }
 
-returns : tie.Need-returns invariant-loop decreases-loop invariant-rows decreases-rows
+returns : tie.Need-returns-after-rows invariant-loop decreases-loop invariant-rows decreases-rows
 unfolding judged_by
-returns c = let r = c.before.rows.invariant in simp (r.none_yet, r.rest ∙ rows_end _ _ _ c.rows-test.false)
+returns c = let r = c.rows.invariant in simp (r.none_yet, r.rest ∙ rows_end _ _ _ c.rows-test.false)
 
-returns-2 : tie.Need-returns-2 invariant-loop decreases-loop invariant-rows decreases-rows
+returns-2 : tie.Need-returns-then-beyond invariant-loop decreases-loop invariant-rows decreases-rows
 unfolding judged_by
 returns-2 c =
-    let b = c.before in
-    let u = b.before.before in
-    let v = u.before.before in
     simp (
-      v.before.rows.invariant.rest ∙ rows_turn _ _ _ v.rows-test.true,
-      passed_fault u.before.loop.invariant.1 u.loop-test.true (over_some time_limit fault.Time _ _ (sym b.beyond.ensures ∙ c.if1.true)),
+      c.rows.invariant.rest ∙ rows_turn _ _ _ c.rows-test.true,
+      passed_fault c.loop-column.invariant.1 c.loop-column-test.true (over_some time_limit fault.Time _ _ (sym c.beyond.ensures ∙ c.if-beyond.true)),
     )
 
-returns-3 : tie.Need-returns-3 invariant-loop decreases-loop invariant-rows decreases-rows
+returns-3 : tie.Need-returns-then-not-some invariant-loop decreases-loop invariant-rows decreases-rows
 unfolding judged_by regular
 returns-3 c =
-    let o = c.before in
-    let l = o.before.loop in
-    let v = o.before.before in
+    let l = c.loop-column in
     simp (
-      v.before.rows.invariant.rest ∙ rows_turn _ _ _ v.rows-test.true,
-      passed_all l.invariant.1 o.loop-test.false,
-      some_all l.invariant.1.walk o.loop-test.false l.invariant.2 ∙ not-true l.some c.if2.true,
+      c.rows.invariant.rest ∙ rows_turn _ _ _ c.rows-test.true,
+      passed_all l.invariant.1 c.loop-column-test.false,
+      some_all l.invariant.1.walk c.loop-column-test.false l.invariant.2 ∙ not-true l.some c.if-not-some.true-raw,
     )
 
 pub rows_fault_spec : {M : Type 1} → statement M

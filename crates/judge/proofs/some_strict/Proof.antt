@@ -10,19 +10,18 @@ use Rattle.judge.proofs.Laws.{Walk, SomeOf, walk_array, walk_more, some_more, so
 use Rattle.judge.proofs.some_strict.Statement.{statement}
 use Rattle.judge.proofs.some_strict.Tie as tie
 
-abbrev invariant-loop : tie.invariant-loop
+abbrev invariant-loop : tie.invariant-loop-i
 invariant-loop count bounds some₀ i₀ some i =
     let entries = take count bounds in
     Walk entries count (λ j. get_or bounds j (unmarked nothing)) i × SomeOf is_strict bound_of entries i some
 
-abbrev decreases-loop : tie.decreases-loop
+abbrev decreases-loop : tie.decreases-loop-i
 decreases-loop count bounds some₀ i₀ some i = count - i
 
-loop-again : tie.Need-loop-preserved invariant-loop decreases-loop
+loop-again : tie.Need-loop-i-preserved invariant-loop decreases-loop
 loop-again c =
-    let u = c.before.before in
-    let i = u.before.loop.invariant in
-    let t = u.loop-test.true in
+    let i = c.loop-i.invariant in
+    let t = c.loop-i-test.true in
     (walk_more i.0 t, some_more i.0 t i.1 (strict_is _))
 
 pub some_strict_spec : {M : Type 1} → statement M
@@ -31,10 +30,10 @@ some_strict_spec =
     (tie.spec
     invariant-loop
     decreases-loop
-    (λ c. (walk_array (unmarked nothing) c.args.count c.args.t1 (omega arith), record { is = refl }))
+    (λ c. (walk_array (unmarked nothing) c.args.count c.args.bounds (omega arith), record { is = refl }))
     (λ c. omega arith)
     (λ c. omega arith)
     (λ c. omega arith)
     (λ c. search rules)
     loop-again
-    (λ c. let i = c.before.loop.invariant in sym (some_all i.0 c.loop-test.false i.1)))
+    (λ c. let i = c.loop-i.invariant in sym (some_all i.0 c.loop-i-test.false i.1)))

@@ -23,32 +23,30 @@ use Rattle.judge.proofs.starts_fault.Tie as tie
 abbrev entry : Seconds → Slot
 entry x = present x.0
 
-abbrev invariant-loop : tie.invariant-loop
+abbrev invariant-loop : tie.invariant-loop-i
 invariant-loop n start i₀ i = Passed (over start_limit fault.StartTime) 0 (map entry (take n start)) n (λ j. entry (get_or start j (seconds (pos 0)))) i
 
-abbrev decreases-loop : tie.decreases-loop
+abbrev decreases-loop : tie.decreases-loop-i
 decreases-loop n start i₀ i = n - i
 
-loop-holds : tie.Need-loop-init invariant-loop decreases-loop
+loop-holds : tie.Need-loop-i-init invariant-loop decreases-loop
 loop-holds c =
     let n = c.args.n in
-    let xs = c.args.t1 in
+    let xs = c.args.start in
     let z = seconds (pos 0) in
     passed_none (walk_none (entry z) (length-map (take n xs) entry ∙ length-take-le n xs (omega arith))
     (λ j h. get_or-map entry (take n xs) j z ∙ ap entry (get_or-take n xs j z h)))
 
-returns : tie.Need-returns invariant-loop decreases-loop
+returns : tie.Need-returns-then-beyond invariant-loop decreases-loop
 unfolding beyond
 returns c =
-    let u = c.before.before.before in
-    let beyond = over_some start_limit fault.StartTime _ _ (sym c.before.beyond.ensures ∙ c.if1.true) in
-    rw zero-add at (passed_refused u.before.loop.invariant u.loop-test.true beyond)
+    let beyond = over_some start_limit fault.StartTime _ _ (sym c.beyond.ensures ∙ c.if-beyond.true) in
+    rw zero-add at (passed_refused c.loop-i.invariant c.loop-i-test.true beyond)
 
-loop-again : tie.Need-loop-preserved invariant-loop decreases-loop
+loop-again : tie.Need-loop-i-preserved invariant-loop decreases-loop
 unfolding beyond
 loop-again c =
-    let u = c.before.before.before in
-    passed_more u.before.loop.invariant u.loop-test.true ((over_none start_limit fault.StartTime _ _).1 (sym c.before.beyond.ensures ∙ c.if1.false))
+    passed_more c.loop-i.invariant c.loop-i-test.true ((over_none start_limit fault.StartTime _ _).1 (sym c.beyond.ensures ∙ c.if-beyond.false))
 
 pub starts_fault_spec : {M : Type 1} → statement M
 starts_fault_spec =
@@ -64,4 +62,4 @@ starts_fault_spec =
     (λ c. omega arith)
     (λ c. search rules)
     loop-again
-    (λ c. passed_accepted c.before.loop.invariant c.loop-test.false))
+    (λ c. passed_accepted c.loop-i.invariant c.loop-i-test.false))

@@ -22,12 +22,12 @@ no_place power n h = go (leb power n) refl
     go true e = sym (lt-ltb (power - 1) n (omega (arith, leb-true power n e)))
     go false e = sym (le-ltb (power - 1) n (omega (arith, leb-false power n e)))
 
-returns-2 : tie.Need-returns-2
+returns-2 : tie.Need-returns
 returns-2 c =
-    let digits = c.before.before.args.form.digits in
+    let digits = c.args.form.digits in
     let few : digits ≤ wide_digits = omega (arith, leb-false) in
     let fits : 1 * 2 ^ digits % 2 ^ 64 ≡ 2 ^ digits = omega (arith, pow_mono few) in
     rw fits (no_place (2 ^ digits) _ (pow_pos digits))
 
 pub too_many_spec : {M : Type 1} → statement M
-too_many_spec = tie.close (tie.spec (λ c. enough _ _ c.before.before.requires c.if1.true) (λ c. search rules) returns-2)
+too_many_spec = tie.close (tie.spec (λ c. enough _ _ c.requires c.if-wide-digits.true) (λ c. search rules) returns-2)

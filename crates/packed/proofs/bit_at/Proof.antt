@@ -4,16 +4,16 @@ use Rattle.model.specs.Packed.{bit_at}
 use Rattle.packed.proofs.bit_at.Statement.{statement}
 use Rattle.packed.proofs.bit_at.Tie as tie
 
-sub-k : tie.Need-overflow-sub-k
+sub-k : tie.Need-overflow_sub-k
 sub-k c = search rules
 
-shared-slice-read-widened : tie.Need-shared-slice-read-widened
+shared-slice-read-widened : tie.Need-bounds-s-i
 shared-slice-read-widened c = search rules
 
-cast-widened : tie.Need-overflow-cast-widened
+cast-widened : tie.Need-overflow_cast-k
 cast-widened c = search rules
 
-shr-widened : tie.Need-overflow-shr-widened
+shr-widened : tie.Need-overflow_shr-s
 shr-widened c = search rules
 
 wide-requires : tie.Need-widened-requires

@@ -9,7 +9,7 @@ use Rattle.packed.proofs.in_seconds.Tie as tie
 
 returns : tie.Need-returns
 unfolding signed
-returns c = let r = c.before.sign_extended in c.of.ensures ∙ to_z-of_z w32 r.result (record { sfits = r.type-inv }) ∙ r.ensures
+returns c = let r = c.sign_extended in c.of.ensures ∙ to_z-of_z w32 r.result (record { sfits = r.type_inv }) ∙ r.ensures
 
 pub in_seconds_spec : {M : Type 1} → statement M
 in_seconds_spec = tie.close (tie.spec (λ c κs. search rules) (λ c κs. search rules) returns)

@@ -9,23 +9,22 @@ use Rattle.packed.proofs.Laws.{answered}
 use Rattle.packed.proofs.read.Statement.{statement}
 use Rattle.packed.proofs.read.Tie as tie
 
-lead_read : (c : tie.After-lead) →
-    bits c.before.before.before.before.args.s.now wide_lead 0 0 ≡ got c.lead.given.0.0 c.lead.given.0.1.0.at
-lead_read c = answered (field_read 0) (c.before.before.bits.ensures 0) c.lead.given.1
+lead_read : (c : tie.In-Got) →
+    bits c.args.s.now wide_lead 0 0 ≡ got c.in-Got.lead c.in-Got.field-1.at
+lead_read c = answered (field_read 0) (c.bits.ensures 0) c.in-Got.is
 
-returns : tie.Need-returns
+returns : tie.Need-returns-in_default
 unfolding parse
 returns c =
-    let d = c.before.before.before in
-    c.refused.ensures ∙ simp (answered (field_read 0) (d.bits.ensures 0) c.before.enum_told.given.1)
+    c.refused.ensures ∙ simp (answered (field_read 0) (c.bits.ensures 0) c.in_default.is)
 
-returns-2 : tie.Need-returns-2
+returns-2 : tie.Need-returns-then-lead-eq0
 unfolding parse
-returns-2 c = let e = c.before in c.read_wide.ensures ∙ simp (rw e.if1.true at (lead_read e.before.before))
+returns-2 c = c.read_wide.ensures ∙ simp (rw c.if-lead-eq0.true at (lead_read c.before.before))
 
-returns-3 : tie.Need-returns-3
+returns-3 : tie.Need-returns
 unfolding parse
-returns-3 c = let e = c.before in c.read-old.ensures ∙ simp (lead_read e.before.before, ne_eqb _ 0 e.if1.false)
+returns-3 c = c.read_old.ensures ∙ simp (lead_read c.before.before, ne_eqb _ 0 c.if-lead-eq0.false)
 
 pub read_spec : {M : Type 1} → statement M
 read_spec =

@@ -26,99 +26,83 @@ abbrev behind_lead : Form → List ℕ → ℕ → Reading Case
 behind_lead f s p = and_then (bits s f.digits p p) (λ n q. cond (eqb n 0) (refused fault.Departures) (behind_count f s n q))
 
 -- the three numbers
-lead_read : (c : tie.After-lead) →
-    let a = c.before.before.before.before.args in
-    bits a.s.now a.form.lead 0 0 ≡ got c.lead.given.0.0 c.lead.given.0.1.0.at
-lead_read c = answered (field_read 0) (c.before.before.bits.ensures 0) c.lead.given.1
+lead_read : (c : tie.In-Got) →
+    let a = c.args in
+    bits a.s.now a.form.lead 0 0 ≡ got c.in-Got.lead c.in-Got.after_lead.at
+lead_read c = answered (field_read 0) (c.bits.ensures 0) c.in-Got.is
 
-count_read : (c : tie.After-n) →
-    let d = c.before.before.before.before.before in
-    let a = d.before.before.before.before.args in
-    let p = d.lead.given.0.1.0.at in
-    bits a.s.now a.form.digits p p ≡ got c.n.given.0.0 c.n.given.0.1.0.at
+count_read : (c : tie.In-Got-bits) →
+    let a = c.args in
+    let p = c.in-Got.after_lead.at in
+    bits a.s.now a.form.digits p p ≡ got c.in-Got-bits.n c.in-Got-bits.after_n.at
 count_read c =
-    let p = c.before.before.before.before.before.lead.given.0.1.0.at in
-    answered (field_read p) (c.before.before.bits2.ensures p) c.n.given.1
+    let p = c.in-Got.after_lead.at in
+    answered (field_read p) (c.bits-2.ensures p) c.in-Got-bits.is
 
-cycles_read : (c : tie.After-m) →
-    let d = c.before.before.before.before.before in
-    let a = d.before.before.before.before.before.before.before.before.before.args in
-    let p = d.n.given.0.1.0.at in
-    bits a.s.now horizon_width p p ≡ got c.m.given.0.0 c.m.given.0.1.0.at
+cycles_read : (c : tie.In-Got-bits-2) →
+    let a = c.args in
+    let p = c.in-Got-bits.after_n.at in
+    bits a.s.now horizon_width p p ≡ got c.in-Got-bits-2.m c.in-Got-bits-2.next.at
 cycles_read c =
-    let p = c.before.before.before.before.before.n.given.0.1.0.at in
-    answered (field_read p) (c.before.before.bits3.ensures p) c.m.given.1
+    let p = c.in-Got-bits.after_n.at in
+    answered (field_read p) (c.bits-3.ensures p) c.in-Got-bits-2.is
 
 -- the bits in front are 0, and then n is not
-past_lead : (c : tie.Else1) →
-    let d = c.before.before in
-    let a = d.before.before.before.before.args in
-    parse_as a.form a.s.now ≡ behind_lead a.form a.s.now d.lead.given.0.1.0.at
+past_lead : (c : tie.Else-lead-ne0) →
+    let a = c.args in
+    parse_as a.form a.s.now ≡ behind_lead a.form a.s.now c.in-Got.after_lead.at
 unfolding parse_as
-past_lead c = simp (rw c.if1.false at (lead_read c.before.before))
+past_lead c = simp (rw c.if-lead-ne0.false at (lead_read c.before))
 
-past_count : (c : tie.Else2) →
-    let d = c.before.before in
-    let a = d.before.before.before.before.before.before.before.before.before.args in
-    parse_as a.form a.s.now ≡ behind_count a.form a.s.now d.n.given.0.0 d.n.given.0.1.0.at
-past_count c = let d = c.before.before in past_lead d.before.before.before ∙ simp (count_read d, ne_eqb _ 0 c.if2.false)
+past_count : (c : tie.Else-n-eq0) →
+    let a = c.args in
+    parse_as a.form a.s.now ≡ behind_count a.form a.s.now c.in-Got-bits.n c.in-Got-bits.after_n.at
+past_count c = past_lead c.before.before.before ∙ simp (count_read c.before, ne_eqb _ 0 c.if-n-eq0.false)
 
-returns : tie.Need-returns
+returns : tie.Need-returns-in_default
 unfolding parse_as
 returns c =
-    let d = c.before.before.before in
-    c.refused.ensures ∙ simp (answered (field_read 0) (d.bits.ensures 0) c.before.enum_told.given.1)
+    c.refused.ensures ∙ simp (answered (field_read 0) (c.bits.ensures 0) c.in_default.is)
 
-returns-2 : tie.Need-returns-2
+returns-2 : tie.Need-returns-then-lead-ne0
 unfolding parse_as
 returns-2 c =
-    let e = c.before in
-    let d = e.before.before in
-    c.refused2.ensures ∙ simp (lead_read d, lt-ltb 0 d.lead.given.0.0 (omega arith))
+    c.refused-then-lead-ne0.ensures ∙ simp (lead_read c.before.before, lt-ltb 0 c.in-Got.lead (omega arith))
 
 bits-requires-2 : tie.Need-bits-requires-2
-bits-requires-2 c κs = let n = given (bits_give _ _ 0 0) (lead_read c.before.before) in omega arith
+bits-requires-2 c κs = let n = given (bits_give _ _ 0 0) (lead_read c.before) in omega arith
 
-returns-3 : tie.Need-returns-3
+returns-3 : tie.Need-returns-in_default-bits
 returns-3 c =
-    let d = c.before.before.before in
-    let p = d.before.before.before.lead.given.0.1.0.at in
-    c.refused3.ensures ∙ simp (past_lead d.before, answered (field_read p) (d.bits2.ensures p) c.before.enum-told2.given.1)
+    let p = c.in-Got.after_lead.at in
+    c.refused-in_default-bits.ensures ∙ simp (past_lead c.before.before.before, answered (field_read p) (c.bits-2.ensures p) c.in_default-bits.is)
 
-returns-4 : tie.Need-returns-4
+returns-4 : tie.Need-returns-then-n-eq0
 returns-4 c =
-    let e = c.before in
-    let d = e.before.before in
-    c.refused4.ensures ∙ simp (past_lead d.before.before.before, rw e.if2.true at (count_read d))
+    c.refused-then-n-eq0.ensures ∙ simp (past_lead c.before.before.before.before, rw c.if-n-eq0.true at (count_read c.before.before))
 
 bits-requires-3 : tie.Need-bits-requires-3
 bits-requires-3 c κs =
-    let d = c.before.before in
-    let lead = given (bits_give _ _ 0 0) (lead_read d.before.before.before.before.before) in
-    let n = given (bits_give _ _ _ _) (count_read d) in
+    let lead = given (bits_give _ _ 0 0) (lead_read c.before.before.before.before) in
+    let n = given (bits_give _ _ _ _) (count_read c.before) in
     omega arith
 
-returns-5 : tie.Need-returns-5
+returns-5 : tie.Need-returns-in_default-bits-2
 returns-5 c =
-    let d = c.before.before.before in
-    let p = d.before.before.before.n.given.0.1.0.at in
-    c.refused5.ensures ∙ simp (past_count d.before, answered (field_read p) (d.bits3.ensures p) c.before.enum-told3.given.1)
+    let p = c.in-Got-bits.after_n.at in
+    c.refused-in_default-bits-2.ensures ∙ simp (past_count c.before.before.before, answered (field_read p) (c.bits-3.ensures p) c.in_default-bits-2.is)
 
 rest-requires : tie.Need-rest-requires
 rest-requires c κs =
-    let d = c.before in
-    let e = d.before.before.before.before.before in
-    let f = e.before.before.before.before.before in
-    let lead = given (bits_give _ _ 0 0) (lead_read f) in
-    let n = given (bits_give _ _ _ _) (count_read e) in
-    let m = given (bits_give _ _ _ _) (cycles_read d) in
-    let lim = f.before.before.before.before.requires in
+    let lead = given (bits_give _ _ 0 0) (lead_read c.before.before.before.before.before.before) in
+    let n = given (bits_give _ _ _ _) (count_read c.before.before.before) in
+    let m = given (bits_give _ _ _ _) (cycles_read c) in
+    let lim = c.requires in
     (omega arith, omega (arith, places_few lim), lim)
 
-returns-6 : tie.Need-returns-6
+returns-6 : tie.Need-returns
 returns-6 c =
-    let d = c.before.before in
-    c.rest.ensures ∙ simp (past_count d.before.before.before, cycles_read d)
+    c.rest.ensures ∙ simp (past_count c.before.before.before, cycles_read c.before)
 
 pub read_as_spec : {M : Type 1} → statement M
 read_as_spec =

@@ -17,57 +17,47 @@ after (nexts.Faulty u) a f g e = rw e
 
 -- all parts
 all_read : (c : tie.After-padding) →
-    let d = c.before in
-    let e = d.before in
-    let t = e.before in
-    let a = t.before.before.args in
-    let case = case_of a.n a.horizon.0 t.times.ensures.read e.bounds.ensures.read d.bounds2.ensures.read in
+    let a = c.args in
+    let case = case_of a.n a.horizon.0 c.times-table.ensures.read c.bounds-from.ensures.read c.bounds-to.ensures.read in
     body a.form a.s.now a.n a.horizon.0 a.first.at ≡ and_then (next_read c.padding.result) (λ z q. got case q)
 unfolding body
 all_read c =
-    let d = c.before in
-    let e = d.before in
-    let t = e.before in
-    let a = t.before.before.args in
-    let case = case_of a.n a.horizon.0 t.times.ensures.read e.bounds.ensures.read d.bounds2.ensures.read in
+    let a = c.args in
+    let case = case_of a.n a.horizon.0 c.times-table.ensures.read c.bounds-from.ensures.read c.bounds-to.ensures.read in
     let s = a.s.now in
-    after t.times.result.next t.times.ensures.read (bounds_of a.form s a.n) _ t.times.ensures.is
-    ∙ after e.bounds.result.next e.bounds.ensures.read (bounds_of a.form s a.n) _ e.bounds.ensures.is
-    ∙ after d.bounds2.result.next d.bounds2.ensures.read (fill s) _ d.bounds2.ensures.is
+    after c.times-table.result.next c.times-table.ensures.read (bounds_of a.form s a.n) _ c.times-table.ensures.is
+    ∙ after c.bounds-from.result.next c.bounds-from.ensures.read (bounds_of a.form s a.n) _ c.bounds-from.ensures.is
+    ∙ after c.bounds-to.result.next c.bounds-to.ensures.read (fill s) _ c.bounds-to.ensures.is
     ∙ ap (λ (x : Reading ℕ). and_then x (λ z q. got case q)) (sym c.padding.ensures)
 
-times-requires : tie.Need-times-requires
+times-requires : tie.Need-times-table-requires
 times-requires c κs = search rules
 
-bounds-requires : tie.Need-bounds-requires
+bounds-requires : tie.Need-bounds-from-requires
 bounds-requires c κs = search rules
 
-bounds-requires-2 : tie.Need-bounds-requires-2
+bounds-requires-2 : tie.Need-bounds-to-requires
 bounds-requires-2 c κs = search rules
 
 padding-requires : tie.Need-padding-requires
 padding-requires c κs = search rules
 
-enum-known-f : tie.Need-enum-known-f
+enum-known-f : tie.Need-enum_known-f
 enum-known-f c = search rules
 
 refused-requires : tie.Need-refused-requires
 refused-requires c κs = search rules
 
-returns : tie.Need-returns
+returns : tie.Need-returns-in-Faulty
 returns c =
-    let f = c.before.before in
-    c.refused.ensures ∙ rw (all_read f.before.before, f.f.given.1)
+    c.refused.ensures ∙ rw (all_read c.before.before, c.in-Faulty.is)
 
-enum_told : tie.Need-enum-told
+enum_told : tie.Need-enum_told-1
 enum_told c = search rules
 
-returns-2 : tie.Need-returns-2
+returns-2 : tie.Need-returns
 returns-2 c =
-    let f = c.before.before.before in
-    let d = f.before.before.before in
-    let e = d.before in
-    rw (all_read f.before.before, f.enum_told.given.1, d.bounds2.ensures.stored, e.bounds.ensures.stored, e.before.times.ensures.stored)
+    rw (all_read c.before.before.before.before, c.in_default.is, c.bounds-to.ensures.stored, c.bounds-from.ensures.stored, c.times-table.ensures.stored)
 
 pub rest_spec : {M : Type 1} → statement M
 rest_spec =

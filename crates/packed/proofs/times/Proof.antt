@@ -34,7 +34,7 @@ record AtRow (s : List ℕ) (n first : ℕ) (slots : List Slot) (cursor : Cursor
   pub stored : slots ≡ padded nothing most_bounds read
   pub rest : rows s n n first [] ≡ rows s n (n - row) cursor.at read
 
-abbrev invariant-loop : tie.invariant-loop
+abbrev invariant-loop : tie.invariant-loop-column
 invariant-loop s n slots₀ cursor₀ k₀ row first some₀ column₀ slots cursor k some column =
     (read : List Slot)
     × Entries time_kind time_width s n cursor₀.at column cursor.at read
@@ -42,7 +42,7 @@ invariant-loop s n slots₀ cursor₀ k₀ row first some₀ column₀ slots cur
     × (k ≡ k₀ + column)
     × (some ≡ regular (map time_of read))
 
-abbrev decreases-loop : tie.decreases-loop
+abbrev decreases-loop : tie.decreases-loop-column
 decreases-loop s n slots₀ cursor₀ k₀ row first some₀ column₀ slots cursor k some column = n - column
 
 abbrev invariant-rows : tie.invariant-rows
@@ -53,7 +53,7 @@ decreases-rows s n slots₀ cursor₀ next₀ k₀ row₀ slots cursor next k ro
 
 rows-holds : tie.Need-rows-init invariant-loop decreases-loop invariant-rows decreases-rows
 rows-holds c =
-    let a = c.before.args in
+    let a = c.args in
     let z : a.n ≡ a.n - 0 = omega arith in
     record {
       read = [];
@@ -66,75 +66,68 @@ rows-holds c =
       rest = ap (λ (m : ℕ). rows a.s.now a.n m a.start.at []) z;
     }
 
-loop-holds : tie.Need-loop-init invariant-loop decreases-loop invariant-rows decreases-rows
+loop-holds : tie.Need-loop-column-init invariant-loop decreases-loop invariant-rows decreases-rows
 unfolding regular any_of
-loop-holds c = ([], entries_none (omega arith) c.before.rows.invariant.place.within, held_none nothing, omega arith, refl)
+loop-holds c = ([], entries_none (omega arith) c.rows.invariant.place.within, held_none nothing, omega arith, refl)
 
 -- the entry is one of the table's
-index : (c : tie.In-loop invariant-loop decreases-loop invariant-rows decreases-rows) → c.before.loop.k < most_times
+index : (c : tie.In-loop-column invariant-loop decreases-loop invariant-rows decreases-rows) → c.loop-column.k < most_times
 index c =
-    let r = c.before.before in
-    omega (arith, row_fits r.before.before.before.requires.1 r.rows-test.true)
+    omega (arith, row_fits c.requires.1 c.rows-test.true)
 
 time-requires : tie.Need-time-requires invariant-loop decreases-loop invariant-rows decreases-rows
 time-requires c κs = omega (arith, index c)
 
-enum-known-f : tie.Need-enum-known-f invariant-loop decreases-loop invariant-rows decreases-rows
+enum-known-f : tie.Need-enum_known-f invariant-loop decreases-loop invariant-rows decreases-rows
 enum-known-f c = search rules
 
-enum-known-slot : tie.Need-enum-known-slot invariant-loop decreases-loop invariant-rows decreases-rows
+enum-known-slot : tie.Need-enum_known-slot invariant-loop decreases-loop invariant-rows decreases-rows
 enum-known-slot c = search rules
 
-mul-slots : tie.Need-overflow-mul-slots invariant-loop decreases-loop invariant-rows decreases-rows
-mul-slots c = omega (arith, index c.before.before.before.before)
+mul-slots : tie.Need-offset_bounds-slots-k invariant-loop decreases-loop invariant-rows decreases-rows
+mul-slots c = omega (arith, index c.before.before)
 
-array-set-from-slots : tie.Need-array-set-from-slots invariant-loop decreases-loop invariant-rows decreases-rows
-array-set-from-slots c = omega (arith, index c.before.before.before.before)
+array-set-from-slots : tie.Need-bounds-slots-k invariant-loop decreases-loop invariant-rows decreases-rows
+array-set-from-slots c = omega (arith, index c.before.before)
 
-add-k : tie.Need-overflow-add-k invariant-loop decreases-loop invariant-rows decreases-rows
-add-k c = omega (arith, index c.before.before.before.before)
+add-k : tie.Need-overflow_add-k invariant-loop decreases-loop invariant-rows decreases-rows
+add-k c = omega (arith, index c.before.before)
 
-add-column : tie.Need-overflow-add-column invariant-loop decreases-loop invariant-rows decreases-rows
+add-column : tie.Need-overflow_step-column invariant-loop decreases-loop invariant-rows decreases-rows
 add-column c = search rules
 
-loop-less : tie.Need-loop-smaller invariant-loop decreases-loop invariant-rows decreases-rows
+loop-less : tie.Need-loop-column-smaller invariant-loop decreases-loop invariant-rows decreases-rows
 loop-less c = search rules
 
-loop-again : tie.Need-loop-preserved invariant-loop decreases-loop invariant-rows decreases-rows
+loop-again : tie.Need-loop-column-preserved invariant-loop decreases-loop invariant-rows decreases-rows
 loop-again c =
-    let e = c.before.before in
-    let d = e.before.before in
-    let u = d.before in
-    let l = u.before.loop in
-    let slot = e.slot.given.0.0 in (
+    let l = c.loop-column in
+    let slot = c.in-Got.slot in (
       _,
-      entries_more l.invariant.1 u.loop-test.true slot _ (answered slot_read d.time.ensures e.slot.given.1),
-      held_more l.invariant.2 l.k (omega arith) (omega (arith, index u)) slot,
+      entries_more l.invariant.1 c.loop-column-test.true slot _ (answered slot_read c.time.ensures c.in-Got.is),
+      held_more l.invariant.2 l.k (omega arith) (omega (arith, index c.before.before.before)) slot,
       omega arith,
       ap (λ (b : Bool). b || slot.has) l.invariant.4 ∙ sym (regular_more l.invariant.0 slot),
     )
 
-add_row : tie.Need-overflow-add-row invariant-loop decreases-loop invariant-rows decreases-rows
+add_row : tie.Need-overflow_step-row invariant-loop decreases-loop invariant-rows decreases-rows
 add_row c = search rules
 
 rows-less : tie.Need-rows-smaller invariant-loop decreases-loop invariant-rows decreases-rows
 rows-less c = search rules
 
 -- a row read to its end
-row_read : (c : tie.After-loop invariant-loop decreases-loop invariant-rows decreases-rows) →
-    let r = c.before.before.before in
-    let a = r.before.before.args in
-    entries time_kind a.s.now a.n r.rows.cursor.at [] ≡ got c.before.loop.invariant.0 c.before.loop.cursor.at
-row_read c = entries_done c.before.loop.invariant.1 c.loop-test.false
+row_read : (c : tie.After-loop-column invariant-loop decreases-loop invariant-rows decreases-rows) →
+    let a = c.args in
+    entries time_kind a.s.now a.n c.rows.cursor.at [] ≡ got c.loop-column.invariant.0 c.loop-column.cursor.at
+row_read c = entries_done c.loop-column.invariant.1 c.loop-column-test.false
 
 rows-again : tie.Need-rows-preserved invariant-loop decreases-loop invariant-rows decreases-rows
 rows-again c =
-    let o = c.before in
-    let l = o.before.loop in
-    let u = o.before.before in
-    let r = u.before.rows in
+    let l = c.loop-column in
+    let r = c.rows in
     let i = r.invariant in
-    let m = next_row u.before.before.before.args.n r.row in
+    let m = next_row c.args.n r.row in
     record {
       read = i.read ++ l.invariant.0;
       long = omega (arith, length-append i.read l.invariant.0);
@@ -143,14 +136,14 @@ rows-again c =
       place = omega arith;
       ends = refl;
       stored = l.invariant.2.stored i.read i.long i.stored;
-      rest = i.rest ∙ rows_turn _ _ _ _ _ u.rows-test.true ∙ simp (row_read o, sym l.invariant.4 ∙ not-false l.some c.if1.false);
+      rest = i.rest ∙ rows_turn _ _ _ _ _ c.rows-test.true ∙ simp (row_read c.before, sym l.invariant.4 ∙ not-false l.some c.if-not-some.false-raw);
     }
 
-returns : tie.Need-returns invariant-loop decreases-loop invariant-rows decreases-rows
+returns : tie.Need-returns-after-rows invariant-loop decreases-loop invariant-rows decreases-rows
 returns c =
-    let r = c.before.rows in
+    let r = c.rows in
     let i = r.invariant in
-    let few = c.before.before.before.requires.1.few in
+    let few = c.requires.1.few in
     let m : r.row ≤ most_departures = omega arith in
     rw i.ends
     (record {
@@ -160,30 +153,25 @@ returns c =
       place = omega (arith, mul-le-mul m few);
     })
 
-returns-2 : tie.Need-returns-2 invariant-loop decreases-loop invariant-rows decreases-rows
+returns-2 : tie.Need-returns-in-Faulty invariant-loop decreases-loop invariant-rows decreases-rows
 returns-2 c =
-    let d = c.before.before.before in
-    let u = d.before in
-    let l = u.before.loop in
-    let v = u.before.before in
-    let i = v.before.rows.invariant in
+    let l = c.loop-column in
+    let i = c.rows.invariant in
     record {
       read = i.read ++ l.invariant.0;
-      is = i.rest ∙ rows_turn _ _ _ _ _ v.rows-test.true
-          ∙ simp (entries_fault l.invariant.1 u.loop-test.true (answered slot_read d.time.ensures c.before.f.given.1));
+      is = i.rest ∙ rows_turn _ _ _ _ _ c.rows-test.true
+          ∙ simp (entries_fault l.invariant.1 c.loop-column-test.true (answered slot_read c.time.ensures c.in-Faulty.is));
       stored = l.invariant.2.stored i.read i.long i.stored;
       place = omega arith;
     }
 
-returns-3 : tie.Need-returns-3 invariant-loop decreases-loop invariant-rows decreases-rows
+returns-3 : tie.Need-returns-then-not-some invariant-loop decreases-loop invariant-rows decreases-rows
 returns-3 c =
-    let o = c.before in
-    let l = o.before.loop in
-    let v = o.before.before in
-    let i = v.before.rows.invariant in
+    let l = c.loop-column in
+    let i = c.rows.invariant in
     record {
       read = i.read ++ l.invariant.0;
-      is = i.rest ∙ rows_turn _ _ _ _ _ v.rows-test.true ∙ simp (row_read o, sym l.invariant.4 ∙ not-true l.some c.if1.true);
+      is = i.rest ∙ rows_turn _ _ _ _ _ c.rows-test.true ∙ simp (row_read c.before, sym l.invariant.4 ∙ not-true l.some c.if-not-some.true-raw);
       stored = l.invariant.2.stored i.read i.long i.stored;
       place = omega arith;
     }

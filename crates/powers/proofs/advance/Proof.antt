@@ -12,8 +12,8 @@ use Rattle.powers.proofs.advance.Tie as tie
 
 product-requires : tie.Need-product-requires
 product-requires c κs =
-    let a = c.before.args in
-    let p = c.before.requires in
+    let a = c.args in
+    let p = c.requires in
     let tables = a.tables.now in
     let d = p.table.departures in
     record {
@@ -28,11 +28,8 @@ product-requires c κs =
 
 returns : tie.Need-returns
 returns c =
-    let f = c.before in
-    let p = f.before.before.before in
-    let s = p.before.before in
-    f.to_front.ensures ∙ ap times_in (sym (at_next s.args.n _)) ∙ p.product.ensures.is
-    ∙ ap (λ numbers. network.product s.args.n (times_in s.args.times.now) (times_in numbers)) (at_front s.args.n s.args.tables.now)
+    c.to_front.ensures ∙ ap times_in (sym (at_next c.args.n _)) ∙ c.product.ensures.is
+    ∙ ap (λ numbers. network.product c.args.n (times_in c.args.times.now) (times_in numbers)) (at_front c.args.n c.args.tables.now)
 
 pub advance_spec : {M : Type 1} → statement M
 advance_spec =

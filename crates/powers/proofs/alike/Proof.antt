@@ -4,7 +4,7 @@ use Rattle.powers.proofs.alike.Statement.{statement}
 use Rattle.powers.proofs.alike.Tie as tie
 
 returns : tie.Need-returns
-returns c = rw (c.all_moved.ensures, c.before.gap.ensures)
+returns c = rw (c.all_moved.ensures, c.gap-number.ensures)
 
 pub alike_spec : {M : Type 1} → statement M
 alike_spec = tie.close (tie.spec (λ c κs. search rules) (λ c κs. search rules) returns)

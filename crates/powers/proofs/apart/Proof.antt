@@ -10,15 +10,13 @@ use Rattle.powers.proofs.apart.Statement.{statement}
 use Rattle.powers.proofs.apart.Tie as tie
 
 -- the two numbers
-apart_is : (c : tie.After-of2) → let a = c.before.before.args in c.before.of.result.0 -ℤ c.of2.result.0 ≡ a.b -ℤ a.a
+apart_is : (c : tie.After-of-2) → let a = c.args in c.of.result.0 -ℤ c.of-2.result.0 ≡ a.b -ℤ a.a
 apart_is c =
-    let s = c.before.before in
-    ap₂ ◌-ℤ◌ (c.before.of.ensures ∙ to_z-of_z w32 s.args.b s.ranges.b) (c.of2.ensures ∙ to_z-of_z w32 s.args.a s.ranges.a)
+    ap₂ ◌-ℤ◌ (c.of.ensures ∙ to_z-of_z w32 c.args.b c.ranges.b) (c.of-2.ensures ∙ to_z-of_z w32 c.args.a c.ranges.a)
 
 minus-requires : tie.Need-minus-requires
 minus-requires c κs =
-    let s = c.before.before in
-    rw (apart_is c) (fits (omega (arith, range s.ranges.a, range s.ranges.b, sub_ud s.args.b s.args.a)))
+    rw (apart_is c) (fits (omega (arith, range c.ranges.a, range c.ranges.b, sub_ud c.args.b c.args.a)))
 
 pub apart_spec : {M : Type 1} → statement M
 apart_spec =

@@ -7,8 +7,7 @@ use Rattle.powers.proofs.both_times.Tie as tie
 
 returns : tie.Need-returns
 returns c =
-    let s = c.before.before in
-    rw (c.before.is_time_lem.ensures, c.is-time2.ensures, to_z-of_z w32 s.args.a s.ranges.a, to_z-of_z w32 s.args.b s.ranges.b)
+    rw (c.is_time.ensures, c.is_time-2.ensures, to_z-of_z w32 c.args.a c.ranges.a, to_z-of_z w32 c.args.b c.ranges.b)
 
 pub both_times_spec : {M : Type 1} → statement M
 both_times_spec = tie.close (tie.spec (λ c κs. search rules) (λ c κs. search rules) returns)

@@ -26,56 +26,51 @@ use Rattle.powers.proofs.entry.Tie as tie
 abbrev sum : ℕ → List ℤ → List ℤ → ℕ → ℕ → ℕ → Time
 sum n first second i j l = after (time n (times_in first) (i + 1) l) (time n (times_in second) l (j + 1))
 
-abbrev invariant-loop : tie.invariant-loop
+abbrev invariant-loop : tie.invariant-loop-l
 invariant-loop first second n i j latest₀ l₀ latest l = (l ≤ n) × (time_in (to_z w32 latest) ≡ latest_of l (sum n first second i j))
 
-abbrev decreases-loop : tie.decreases-loop
+abbrev decreases-loop : tie.decreases-loop-l
 decreases-loop first second n i j latest₀ l₀ latest l = n - l
 
-loop-holds : tie.Need-loop-init invariant-loop decreases-loop
+loop-holds : tie.Need-loop-l-init invariant-loop decreases-loop
 unfolding time_in same_z latest tabulate
 loop-holds c = (omega arith, refl)
 
 -- both places lie in their tables
-row_place : (c : tie.In-loop invariant-loop decreases-loop) → let a = c.before.before.args in a.i * a.n + c.before.loop.l < length a.first.now
-row_place c = let s = c.before.before in rw s.requires.factors.first_in.size (digits_lt s.requires.row c.loop-test.true)
+row_place : (c : tie.In-loop-l invariant-loop decreases-loop) → let a = c.args in a.i * a.n + c.loop-l.l < length a.first.now
+row_place c = rw c.requires.factors.first_in.size (digits_lt c.requires.row c.loop-l-test.true)
 
-column_place : (c : tie.In-loop invariant-loop decreases-loop) → let a = c.before.before.args in c.before.loop.l * a.n + a.j < length a.second.now
-column_place c = let s = c.before.before in rw s.requires.factors.second_in.size (digits_lt c.loop-test.true s.requires.column)
+column_place : (c : tie.In-loop-l invariant-loop decreases-loop) → let a = c.args in c.loop-l.l * a.n + a.j < length a.second.now
+column_place c = rw c.requires.factors.second_in.size (digits_lt c.loop-l-test.true c.requires.column)
 
 -- what is read there
-looked : (c : tie.After-b invariant-loop decreases-loop) →
-    let k = c.before.before in
-    let a = k.before.before.args in
-    let l = k.before.loop.l in
+looked : (c : tie.After-b-1 invariant-loop decreases-loop) →
+    let a = c.args in
+    let l = c.loop-l.l in
     let p = a.i * a.n + l in
     let q = l * a.n + a.j in
     after (time_in (to_z w32 (of_z w32 (get_or a.first.now p (pos 0))))) (time_in (to_z w32 (of_z w32 (get_or a.second.now q (pos 0)))))
     ≡ after (get_or (times_in a.first.now) p blank) (get_or (times_in a.second.now) q blank)
 looked c =
-    let k = c.before.before in
-    ap₂ after (read _ _ (row_place k) (record { sfits = c.before.a.given })) (read _ _ (column_place k) (record { sfits = c.b.given }))
+    ap₂ after (read _ _ (row_place c.before.before) (record { sfits = c.a-1.given })) (read _ _ (column_place c.before.before) (record { sfits = c.b-1.given }))
 
-later-sum-requires : tie.Need-later-sum-requires invariant-loop decreases-loop
+later-sum-requires : tie.Need-later_sum-latest-requires invariant-loop decreases-loop
 later-sum-requires c κs =
-    let f = c.before.before.before.before.requires.factors in
+    let f = c.requires.factors in
     rw (looked c) (sum_small f.first_small f.second_small _ _)
 
-loop-again : tie.Need-loop-preserved invariant-loop decreases-loop
+loop-again : tie.Need-loop-l-preserved invariant-loop decreases-loop
 loop-again c =
-    let b = c.before in
-    let k = b.before.before in
-    let a = k.before.before.args in
-    let l = k.before.loop in
+    let a = c.args in
+    let l = c.loop-l in
     let sum_is_lem = sym (ap₂ after (time_at a.n (times_in a.first.now) a.i l.l) (time_at a.n (times_in a.second.now) l.l a.j)) in
-    let back = to_z-of_z w32 c.later-sum.result (record { sfits = c.later-sum.type-inv }) in
-    (omega arith, ap time_in back ∙ c.later-sum.ensures ∙ ap₂ later l.invariant.1 (looked b ∙ sum_is_lem) ∙ sym (latest_of_more l.l _))
+    let back = to_z-of_z w32 c.later_sum-latest.result (record { sfits = c.later_sum-latest.type_inv }) in
+    (omega arith, ap time_in back ∙ c.later_sum-latest.ensures ∙ ap₂ later l.invariant.1 (looked c.before ∙ sum_is_lem) ∙ sym (latest_of_more l.l _))
 
 returns : tie.Need-returns invariant-loop decreases-loop
 returns c =
-    let l = c.before.loop in
-    let s = c.before.before in
-    let a = s.args in
+    let l = c.loop-l in
+    let a = c.args in
     let e : l.l ≡ a.n = omega arith in
     (rw e at l.invariant.1)
     ∙ sym (time_product a.n _ _ (a.i + 1) (a.j + 1) (omega arith) (omega arith) (omega arith) (omega arith))

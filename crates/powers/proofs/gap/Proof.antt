@@ -14,55 +14,48 @@ use Rattle.powers.proofs.Times.{both_times, read, times_size, gap_past, gap_ther
 use Rattle.powers.proofs.gap.Statement.{statement}
 use Rattle.powers.proofs.gap.Tie as tie
 
-abbrev invariant-loop : tie.invariant-loop
+abbrev invariant-loop : tie.invariant-loop-k
 invariant-loop first second k₀ k-end k =
     (k ≤ k-end) × (network.gap (times_in first) (times_in second) ≡ network.gap (drop k (times_in first)) (drop k (times_in second)))
 
-abbrev decreases-loop : tie.decreases-loop
+abbrev decreases-loop : tie.decreases-loop-k
 decreases-loop first second k₀ k-end k = k-end - k
 
 -- the two entries that are read
-in_first : (c : tie.After-b invariant-loop decreases-loop) →
-    let k = c.before.before.before in
-    let zs = k.before.args.first.now in
-    let a = to_z w32 (of_z w32 (get_or zs k.loop.k (pos 0))) in
-    time_in a ≡ get_or (times_in zs) k.loop.k blank
-in_first c = read _ _ (omega arith) (record { sfits = c.before.a.given })
+in_first : (c : tie.After-b-1 invariant-loop decreases-loop) →
+    let zs = c.args.first.now in
+    let a = to_z w32 (of_z w32 (get_or zs c.loop-k.k (pos 0))) in
+    time_in a ≡ get_or (times_in zs) c.loop-k.k blank
+in_first c = read _ _ (omega arith) (record { sfits = c.a-1.given })
 
-in_second : (c : tie.After-b invariant-loop decreases-loop) →
-    let k = c.before.before.before in
-    let zs = k.before.args.second.now in
-    time_in (to_z w32 (of_z w32 (get_or zs k.loop.k (pos 0)))) ≡ get_or (times_in zs) k.loop.k blank
-in_second c = read _ _ (omega arith) (record { sfits = c.b.given })
+in_second : (c : tie.After-b-1 invariant-loop decreases-loop) →
+    let zs = c.args.second.now in
+    time_in (to_z w32 (of_z w32 (get_or zs c.loop-k.k (pos 0)))) ≡ get_or (times_in zs) c.loop-k.k blank
+in_second c = read _ _ (omega arith) (record { sfits = c.b-1.given })
 
-returns : tie.Need-returns invariant-loop decreases-loop
+returns : tie.Need-returns-then-both_times invariant-loop decreases-loop
 returns c =
-    let t = c.before in
-    let b = t.before.before in
-    let k = b.before.before.before in
-    let a = k.before.args in
-    let (p, q) = both_times _ _ (sym t.before.both_times.ensures ∙ t.if1.true) in
+    let a = c.args in
+    let (p, q) = both_times _ _ (sym c.both_times.ensures ∙ c.if-both_times.true) in
     c.apart.ensures
-    ∙ sym (k.loop.invariant.1 ∙ gap_there (times_in a.first.now) (times_in a.second.now) k.loop.k (omega (arith, times_size a.first.now))
-    (omega (arith, times_size a.second.now)) (sym (in_first b) ∙ p) (sym (in_second b) ∙ q))
+    ∙ sym (c.loop-k.invariant.1 ∙ gap_there (times_in a.first.now) (times_in a.second.now) c.loop-k.k (omega (arith, times_size a.first.now))
+    (omega (arith, times_size a.second.now)) (sym (in_first c.before.before.before) ∙ p) (sym (in_second c.before.before.before) ∙ q))
 
-loop-again : tie.Need-loop-preserved invariant-loop decreases-loop
+loop-again : tie.Need-loop-k-preserved invariant-loop decreases-loop
 loop-again c =
-    let b = c.before.before in
-    let k = b.before.before.before in
-    let a = k.before.args in
-    let not_both = rw (in_first b, in_second b) at (sym c.before.both_times.ensures ∙ c.if1.false) in (
+    let a = c.args in
+    let not_both = rw (in_first c.before.before, in_second c.before.before) at (sym c.both_times.ensures ∙ c.if-both_times.false) in (
       omega arith,
-      k.loop.invariant.1 ∙ gap_past (times_in a.first.now) (times_in a.second.now) k.loop.k (omega (arith, times_size a.first.now))
+      c.loop-k.invariant.1 ∙ gap_past (times_in a.first.now) (times_in a.second.now) c.loop-k.k (omega (arith, times_size a.first.now))
           (omega (arith, times_size a.second.now)) not_both,
     )
 
-returns-2 : tie.Need-returns-2 invariant-loop decreases-loop
+returns-2 : tie.Need-returns invariant-loop decreases-loop
 unfolding network.gap
 returns-2 c =
-    let ts = times_in c.before.before.args.first.now in
-    let l = c.before.loop in
-    sym (l.invariant.1 ∙ rw (drop_of_length-le ts {i = l.k} (omega (arith, times_size c.before.before.args.first.now))))
+    let ts = times_in c.args.first.now in
+    let l = c.loop-k in
+    sym (l.invariant.1 ∙ rw (drop_of_length-le ts {i = l.k} (omega (arith, times_size c.args.first.now))))
 
 pub gap_spec : {M : Type 1} → statement M
 gap_spec =

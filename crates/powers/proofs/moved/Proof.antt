@@ -33,29 +33,24 @@ same_sum a b c =
     )
 
 -- the test, of the numbers
-tested : (c : tie.After-both-times) → let a = c.before.args in c.both_times.result ≡ (is_time (time_in a.a) && is_time (time_in a.b))
-tested c = both_tested c.before.ranges.a c.before.ranges.b c.both_times.ensures
+tested : (c : tie.After-both_times) → let a = c.args in c.both_times.result ≡ (is_time (time_in a.a) && is_time (time_in a.b))
+tested c = both_tested c.ranges.a c.ranges.b c.both_times.ensures
 
-returns : tie.Need-returns
+returns : tie.Need-returns-then-not-both_times
 returns c =
-    let k = c.before.before in
-    let s = k.before.before in
-    let a_back = to_z-of_z w32 s.args.a s.ranges.a in
-    let b-back = to_z-of_z w32 s.args.b s.ranges.b in
-    rw (c.before.is_time_lem.ensures, c.is-time2.ensures, a_back, b-back)
-    (not_times _ _ s.args.c.0 (sym (tested k.before) ∙ not-true _ k.if1.true))
+    let a_back = to_z-of_z w32 c.args.a c.ranges.a in
+    let b-back = to_z-of_z w32 c.args.b c.ranges.b in
+    rw (c.is_time.ensures, c.is_time-then-not-both_times.ensures, a_back, b-back)
+    (not_times _ _ c.args.c.0 (sym (tested c.before.before.before) ∙ not-true _ c.if-not-both_times.true-raw))
 
-returns-2 : tie.Need-returns-2
+returns-2 : tie.Need-returns
 unfolding after same_time
 returns-2 c =
-    let m = c.before.before in
-    let k = m.before in
-    let s = k.before.before in
-    let (p, q) = both_times s.args.a s.args.b (sym (tested k.before) ∙ not-false _ k.if1.false) in
-    let a_back = to_z-of_z w32 s.args.a s.ranges.a in
-    let b-back = to_z-of_z w32 s.args.b s.ranges.b in
-    rw (p, q, c.before.at_most.ensures, c.at-most2.ensures, m.apart.ensures, a_back, b-back)
-    (same_sum s.args.a s.args.b s.args.c.0)
+    let (p, q) = both_times c.args.a c.args.b (sym (tested c.before.before.before.before) ∙ not-false _ c.if-not-both_times.false-raw) in
+    let a_back = to_z-of_z w32 c.args.a c.ranges.a in
+    let b-back = to_z-of_z w32 c.args.b c.ranges.b in
+    rw (p, q, c.at_most.ensures, c.at_most-2.ensures, c.apart-d.ensures, a_back, b-back)
+    (same_sum c.args.a c.args.b c.args.c.0)
 
 pub moved_spec : {M : Type 1} → statement M
 moved_spec =

@@ -12,27 +12,26 @@ use Rattle.memory.proofs.Slots.{next_in}
 use Rattle.powers.proofs.put_front.Statement.{statement}
 use Rattle.powers.proofs.put_front.Tie as tie
 
-abbrev invariant-loop : tie.invariant-loop
+abbrev invariant-loop : tie.invariant-loop-k
 invariant-loop tables₀ times k₀ k-end tables k = (k ≤ length times) × (times_in (take k tables) ≡ times_in (take k times)) × (length tables ≡ length tables₀)
 
-abbrev decreases-loop : tie.decreases-loop
+abbrev decreases-loop : tie.decreases-loop-k
 decreases-loop tables₀ times k₀ k-end tables k = length times - k
 
-loop-again : tie.Need-loop-preserved invariant-loop decreases-loop
+loop-again : tie.Need-loop-k-preserved invariant-loop decreases-loop
 unfolding times_in
 loop-again c =
-    let l = c.before.before.loop in
-    let s = c.before.before.before in (
+    let l = c.loop-k in (
       omega arith,
-      next_in time_in time_in l.tables s.args.times.now l.k _ (pos 0) (omega arith) (omega arith) l.invariant.1
-          (ap time_in (to_z-of_z w32 _ (record { sfits = c.e.given }))),
+      next_in time_in time_in l.tables c.args.times.now l.k _ (pos 0) (omega arith) (omega arith) l.invariant.1
+          (ap time_in (to_z-of_z w32 _ (record { sfits = c.e-1.given }))),
       length-set l.tables l.k _ ∙ l.invariant.2,
     )
 
 returns : tie.Need-returns invariant-loop decreases-loop
 returns c =
-    let l = c.before.loop in
-    let times = c.before.before.args.times.now in
+    let l = c.loop-k in
+    let times = c.args.times.now in
     let e : l.k ≡ length times = omega arith in
     (rw e at l.invariant.1) ∙ ap times_in (take-length times)
 
@@ -50,5 +49,5 @@ put_front_spec =
     (λ c. omega arith)
     (λ c. omega arith)
     loop-again
-    (λ c. c.before.loop.invariant.2)
+    (λ c. c.loop-k.invariant.2)
     returns)

@@ -15,65 +15,58 @@ use Rattle.powers.proofs.Searching.{found_from, from_all, found_later, found_her
 use Rattle.powers.proofs.repeats.Statement.{statement}
 use Rattle.powers.proofs.repeats.Tie as tie
 
-abbrev invariant-loop : tie.invariant-loop
+abbrev invariant-loop : tie.invariant-loop-p
 invariant-loop powers n r size base last p₀ p =
     repeats_at n powers r ≡ found_from (table_at n powers) (table_at n powers r) r p
 
-abbrev decreases-loop : tie.decreases-loop
+abbrev decreases-loop : tie.decreases-loop-p
 decreases-loop powers n r size base last p₀ p = r - p
 
 -- an earlier place
-before : (c : tie.In-loop invariant-loop decreases-loop) →
-    let a = c.before.before.before.args in
+before : (c : tie.In-loop-p invariant-loop decreases-loop) →
+    let a = c.args in
     let size = table_size a.n in
-    c.before.loop.p * size + size ≤ a.r * size
+    c.loop-p.p * size + size ≤ a.r * size
 before c =
-    let size = table_size c.before.before.before.args.n in
-    let p = c.before.loop.p in
-    omega (arith, mul-le-mul_right size c.loop-test.true, suc-mul p size)
+    let size = table_size c.args.n in
+    let p = c.loop-p.p in
+    omega (arith, mul-le-mul_right size c.loop-p-test.true, suc-mul p size)
 
 -- the two tables are of one length
-alike_long : (c : tie.In-loop invariant-loop decreases-loop) →
-    let a = c.before.before.before.args in
-    length (numbers_at a.n a.powers.now c.before.loop.p) ≡ length (numbers_at a.n a.powers.now a.r)
+alike_long : (c : tie.In-loop-p invariant-loop decreases-loop) →
+    let a = c.args in
+    length (numbers_at a.n a.powers.now c.loop-p.p) ≡ length (numbers_at a.n a.powers.now a.r)
 alike_long c =
-    let s = c.before.before.before in
-    let a = s.args in
-    length_at a.n _ a.powers.now (omega (arith, before c, s.requires.inside)) ∙ sym (length_at a.n _ a.powers.now s.requires.inside)
+    let a = c.args in
+    length_at a.n _ a.powers.now (omega (arith, before c, c.requires.inside)) ∙ sym (length_at a.n _ a.powers.now c.requires.inside)
 
 alike-requires : tie.Need-alike-requires invariant-loop decreases-loop
 alike-requires c κs =
-    let a = c.before.before.before.before.args in
-    rw (lent_at a.n c.before.before.loop.p a.powers.now, lent_at a.n a.r a.powers.now) (alike_long c.before)
+    let a = c.args in
+    rw (lent_at a.n c.loop-p.p a.powers.now, lent_at a.n a.r a.powers.now) (alike_long c.before)
 
-gap-requires : tie.Need-gap-requires invariant-loop decreases-loop
+gap-requires : tie.Need-gap-number-requires invariant-loop decreases-loop
 gap-requires c κs = alike-requires c.before.before κs
 
 -- the comparison, of the tables at the two places
 compared : (c : tie.After-alike invariant-loop decreases-loop) →
-    let k = c.before.before in
-    let a = k.before.before.before.args in
+    let a = c.args in
     let t = table_at a.n a.powers.now in
-    let p = k.before.loop.p in
+    let p = c.loop-p.p in
     c.alike.result ≡ same_lists same_time (added (network.gap (t p) (t a.r)) (t p)) (t a.r)
 compared c =
-    let k = c.before.before in
-    let a = k.before.before.before.args in
-    rw (lent_at a.n k.before.loop.p a.powers.now, lent_at a.n a.r a.powers.now) at c.alike.ensures
+    let a = c.args in
+    rw (lent_at a.n c.loop-p.p a.powers.now, lent_at a.n a.r a.powers.now) at c.alike.ensures
 
-returns : tie.Need-returns invariant-loop decreases-loop
+returns : tie.Need-returns-then-alike invariant-loop decreases-loop
 returns c =
-    let t = c.before in
-    let k = t.before.before.before in
-    let a = k.before.before.before.args in
-    rw (c.gap.ensures, lent_at a.n k.before.loop.p a.powers.now, lent_at a.n a.r a.powers.now)
-    (sym (k.before.loop.invariant ∙ found_here _ _ _ _ k.loop-test.true (sym (compared t.before) ∙ t.if1.true)))
+    let a = c.args in
+    rw (c.gap-number.ensures, lent_at a.n c.loop-p.p a.powers.now, lent_at a.n a.r a.powers.now)
+    (sym (c.loop-p.invariant ∙ found_here _ _ _ _ c.loop-p-test.true (sym (compared c.before.before) ∙ c.if-alike.true)))
 
-loop-again : tie.Need-loop-preserved invariant-loop decreases-loop
+loop-again : tie.Need-loop-p-preserved invariant-loop decreases-loop
 loop-again c =
-    let m = c.before in
-    let k = m.before.before in
-    k.before.loop.invariant ∙ found_later _ _ _ _ k.loop-test.true (sym (compared m) ∙ c.if1.false)
+    c.loop-p.invariant ∙ found_later _ _ _ _ c.loop-p-test.true (sym (compared c.before) ∙ c.if-alike.false)
 
 pub repeats_spec : {M : Type 1} → statement M
 repeats_spec =
@@ -103,4 +96,4 @@ repeats_spec =
     (λ c. omega arith)
     (λ c. omega arith)
     loop-again
-    (λ c. sym (c.before.loop.invariant ∙ found_none _ _ _ _ c.loop-test.false)))
+    (λ c. sym (c.loop-p.invariant ∙ found_none _ _ _ _ c.loop-p-test.false)))

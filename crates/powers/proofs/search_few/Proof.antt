@@ -8,7 +8,7 @@ use Rattle.powers.proofs.search_few.Tie as tie
 
 search-requires : tie.Need-search-requires
 search-requires c κs =
-    let (ready, few) = c.before.requires in
+    let (ready, few) = c.requires in
     record { ready = ready; room = rw length-replicate (omega (arith, mul-le-mul few few)) }
 
 pub search_few_spec : {M : Type 1} → statement M

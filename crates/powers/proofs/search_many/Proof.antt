@@ -8,7 +8,7 @@ use Rattle.powers.proofs.search_many.Tie as tie
 
 search-requires : tie.Need-search-requires
 search-requires c κs =
-    let ready = c.before.requires in
+    let ready = c.requires in
     record { ready = ready; room = rw length-replicate (omega (arith, table_fits ready.table.departures)) }
 
 pub search_many_spec : {M : Type 1} → statement M

@@ -12,35 +12,35 @@ use Rattle.memory.proofs.Slots.{next_in}
 use Rattle.powers.proofs.to_front.Statement.{statement}
 use Rattle.powers.proofs.to_front.Tie as tie
 
-abbrev invariant-loop : tie.invariant-loop
+abbrev invariant-loop : tie.invariant-loop-k
 invariant-loop tables₀ size k₀ tables k =
     (k ≤ size)
     × (times_in (take k tables) ≡ times_in (take k (drop size tables₀)))
     × (drop size tables ≡ drop size tables₀)
     × (length tables ≡ length tables₀)
 
-abbrev decreases-loop : tie.decreases-loop
+abbrev decreases-loop : tie.decreases-loop-k
 decreases-loop tables₀ size k₀ tables k = size - k
 
-loop-again : tie.Need-loop-preserved invariant-loop decreases-loop
+loop-again : tie.Need-loop-k-preserved invariant-loop decreases-loop
 unfolding times_in
 loop-again c =
-    let l = c.before.before.loop in
-    let a = c.before.before.before.args in
+    let l = c.loop-k in
+    let a = c.args in
     let old = a.tables.now in
     let there : get_or l.tables (a.size + l.k) (pos 0) ≡ get_or (drop a.size old) l.k (pos 0) =
     sym (get_or-drop a.size l.tables l.k (pos 0)) ∙ rw l.invariant.2 in (
       omega arith,
       next_in time_in time_in l.tables (drop a.size old) l.k _ (pos 0) (omega arith) (omega (arith, length-drop a.size old)) l.invariant.1
-          (ap time_in (to_z-of_z w32 _ (record { sfits = c.e.given }) ∙ there)),
+          (ap time_in (to_z-of_z w32 _ (record { sfits = c.e-1.given }) ∙ there)),
       drop-set-lt a.size l.tables l.k _ (omega arith) ∙ l.invariant.2,
       length-set l.tables l.k _ ∙ l.invariant.3,
     )
 
 returns : tie.Need-returns invariant-loop decreases-loop
 returns c =
-    let l = c.before.loop in
-    let e : l.k ≡ c.before.before.args.size = omega arith in
+    let l = c.loop-k in
+    let e : l.k ≡ c.args.size = omega arith in
     rw e at l.invariant.1
 
 pub to_front_spec : {M : Type 1} → statement M
@@ -58,5 +58,5 @@ to_front_spec =
     (λ c. omega arith)
     (λ c. omega arith)
     loop-again
-    (λ c. c.before.loop.invariant.3)
+    (λ c. c.loop-k.invariant.3)
     returns)

@@ -37,35 +37,35 @@ steps z f h =
     }
 
 -- a number that fits, and so is read back from its bits
-fitting : (c : tie.After-struct-told) → SFits w64 c.before.args.x.0
+fitting : (c : tie.After-struct_told-1) → SFits w64 c.args.x.0
 fitting c = search rules
 
-below : (c : tie.Then1) → Steps c.before.before.args.x.0
-below c = steps _ (fitting c.before) (simp (to_z-of_z, fitting c.before) at c.if1.true)
+below : (c : tie.Then-value-lt0) → Steps c.args.x.0
+below c = steps _ (fitting c.before) (simp (to_z-of_z, fitting c.before) at c.if-value-lt0.true)
 
-add-result : tie.Need-overflow-add-result
+add-result : tie.Need-overflow_add-result
 add-result c = simp (to_z-of_z, fitting c.before) (below c).next
 
-sub-result : tie.Need-overflow-sub-result
+sub-result : tie.Need-overflow_sub-result
 sub-result c = simp (to_z-of_z, fitting c.before, (below c).next) (below c).opposite
 
-cast-result : tie.Need-overflow-cast-result
+cast-result : tie.Need-overflow_cast-result
 cast-result c = simp (to_z-of_z, fitting c.before, (below c).next, (below c).opposite) (yes_non_neg (below c).positive, omega (arith, below c))
 
-add-result-2 : tie.Need-overflow-add-result-2
+add-result-2 : tie.Need-overflow_add-result-then-value-lt0
 add-result-2 c = simp (to_z-of_z, fitting c.before, (below c).next, (below c).opposite) (omega (arith, below c))
 
-returns : tie.Need-returns
+returns : tie.Need-returns-then-value-lt0
 returns c = simp (to_z-of_z, fitting c.before, (below c).next, (below c).opposite) (below c).sized
 
-cast-result-2 : tie.Need-overflow-cast-result-2
+cast-result-2 : tie.Need-overflow_cast-result-2
 cast-result-2 c =
     let f = fitting c.before in
-    let z = c.before.before.args.x.0 in
-    let h : lt_z z (pos 0) ≡ false = simp (to_z-of_z, f) at c.if1.false in
+    let z = c.args.x.0 in
+    let h : lt_z z (pos 0) ≡ false = simp (to_z-of_z, f) at c.if-value-lt0.false in
     simp (to_z-of_z, f) (yes_non_neg {z = z} (omega (ints, pos_ud 0)), omega (ints, range f, abs_ud z))
 
-returns-2 : tie.Need-returns-2
+returns-2 : tie.Need-returns
 returns-2 c = search rules
 
 pub magnitude_spec : {M : Type 1} → statement M

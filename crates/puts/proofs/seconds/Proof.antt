@@ -12,54 +12,49 @@ use Rattle.puts.proofs.seconds.Statement.{statement}
 use Rattle.puts.proofs.seconds.Tie as tie
 
 -- the digits by the test
-negative : (c : tie.Then1) → let m = c.before.before in signed_number m.before.before.args.x.0 ≡ 45 ∷ number m.magnitude.result
-negative c = rw c.before.before.magnitude.ensures (below_zero _ (sym c.before.less.ensures ∙ c.if1.true))
+negative : (c : tie.Then-less) → signed_number c.args.x.0 ≡ 45 ∷ number c.magnitude-digits.result
+negative c = rw c.magnitude-digits.ensures (below_zero _ (sym c.less.ensures ∙ c.if-less.true))
 
-positive : (c : tie.Else1) → let m = c.before.before in signed_number m.before.before.args.x.0 ≡ number m.magnitude.result
-positive c = rw c.before.before.magnitude.ensures (from_zero _ (sym c.before.less.ensures ∙ c.if1.false))
+positive : (c : tie.Else-less) → signed_number c.args.x.0 ≡ number c.magnitude-digits.result
+positive c = rw c.magnitude-digits.ensures (from_zero _ (sym c.less.ensures ∙ c.if-less.false))
 
 -- it has few digits, for which there is room
-few : (c : tie.After-magnitude) → let s = c.before.before in length (signed_number s.args.x.0) ≤ most_signed
+few : (c : tie.After-magnitude-digits) → length (signed_number c.args.x.0) ≤ most_signed
 few c = signed_short _ (omega arith)
 
-room : (c : tie.After-magnitude) → let a = c.before.before.args in a.at + length (signed_number a.x.0) ≤ length a.out.now
-room c = c.before.before.requires (omega arith)
+room : (c : tie.After-magnitude-digits) → let a = c.args in a.at + length (signed_number a.x.0) ≤ length a.out.now
+room c = c.requires (omega arith)
 
-magnitude-requires : tie.Need-magnitude-requires
+magnitude-requires : tie.Need-magnitude-digits-requires
 magnitude-requires c κs = search rules
 
 less-requires : tie.Need-less-requires
 less-requires c κs = search rules
 
-byte-requires : tie.Need-byte-requires
-byte-requires c κs = let t = c.before in let r = rw (negative t) at (room t.before.before) in omega arith
+byte-requires : tie.Need-byte-next-requires
+byte-requires c κs = let r = rw (negative c.before) at (room c.before.before.before) in omega arith
 
 number-requires : tie.Need-number-requires
-number-requires c κs = let t = c.before.before.before.before.before in let r = rw (negative t) at (room t.before.before) in omega arith
+number-requires c κs = let r = rw (negative c.before.before.before.before.before) at (room c.before.before.before.before.before.before.before) in omega arith
 
-same_length : tie.Need-same-length
+same_length : tie.Need-shape_of-out-then-less
 same_length c = search rules
 
-returns : tie.Need-returns
+returns : tie.Need-returns-then-less
 returns c =
-    let n = c.before.before in
-    let b = n.before.before.before.before in
-    let t = b.before.before in
-    let all = rw (← (negative t)) at (puts_then b.byte.ensures n.number.ensures.puts) in
-    record { puts = all; within = omega (arith, few t.before.before) }
+    let all = rw (← (negative c.before.before.before.before.before.before.before.before)) at (puts_then c.byte-next.ensures c.number.ensures.puts) in
+    record { puts = all; within = omega (arith, few c.before.before.before.before.before.before.before.before.before.before) }
 
 number-requires-2 : tie.Need-number-requires-2
-number-requires-2 c κs = let e = c.before in let r = rw (positive e) at (room e.before.before) in omega arith
+number-requires-2 c κs = let r = rw (positive c.before) at (room c.before.before.before) in omega arith
 
-same-length-2 : tie.Need-same-length-2
+same-length-2 : tie.Need-shape_of-out
 same-length-2 c = search rules
 
-returns-2 : tie.Need-returns-2
+returns-2 : tie.Need-returns
 returns-2 c =
-    let n = c.before.before in
-    let e = n.before.before in
-    let all = rw (← (positive e)) at n.number2.ensures.puts in
-    record { puts = all; within = omega (arith, few e.before.before) }
+    let all = rw (← (positive c.before.before.before.before)) at c.number-2.ensures.puts in
+    record { puts = all; within = omega (arith, few c.before.before.before.before.before.before) }
 
 pub seconds_spec : {M : Type 1} → statement M
 seconds_spec =

@@ -13,26 +13,24 @@ use Rattle.starts.proofs.all_times.Tie as tie
 abbrev zeros : List ℤ
 zeros = replicate most_numbers (pos 0)
 
-zone-size-requires : tie.Need-zone-size-requires
+zone-size-requires : tie.Need-zone_size-size-requires
 zone-size-requires c κs = search rules
 
-array-borrow-prefix-zone : tie.Need-array-borrow-prefix-zone
-array-borrow-prefix-zone c = part_room c.before.requires c.zone_size_lem.ensures zeros refl
+array-borrow-prefix-zone : tie.Need-slice_bounds-zone-end
+array-borrow-prefix-zone c = part_room c.requires c.zone_size-size.ensures zeros refl
 
-slice-aggregate-everything : tie.Need-slice-aggregate-everything
-slice-aggregate-everything c = let z = c.before in sym (part_long z.before.requires z.zone_size_lem.ensures zeros refl)
+slice-aggregate-everything : tie.Need-slice_bounds-everything-end
+slice-aggregate-everything c = sym (part_long c.requires c.zone_size-size.ensures zeros refl)
 
 everything-requires : tie.Need-everything-requires
-everything-requires c κs = let z = c.before in part_zone z.before.requires z.zone_size_lem.ensures zeros refl
+everything-requires c κs = part_zone c.requires c.zone_size-size.ensures zeros refl
 
 returns : tie.Need-returns
 returns c =
-    let e = c.before in
-    let z = e.before.before in
-    let d = z.before.requires in
-    let out = e.everything.new.0 in
-    let same = e.everything.auto.0 in
-    (ap bounds_in (back_is d z.zone_size_lem.ensures zeros refl out same) ∙ e.everything.ensures, back_long d z.zone_size_lem.ensures zeros refl out same)
+    let d = c.requires in
+    let out = c.everything.new.zone in
+    let same = c.everything.auto.zone in
+    (ap bounds_in (back_is d c.zone_size-size.ensures zeros refl out same) ∙ c.everything.ensures, back_long d c.zone_size-size.ensures zeros refl out same)
 
 pub all_times_spec : {M : Type 1} → statement M
 all_times_spec =

@@ -10,14 +10,13 @@ use Rattle.memory.proofs.Picked.{clocked_at}
 use Rattle.starts.proofs.clocked.Statement.{statement}
 use Rattle.starts.proofs.clocked.Tie as tie
 
-returns : tie.Need-returns
+returns : tie.Need-returns-then-s-eq0
 unfolding clocked
-returns c = rw c.if1.true
+returns c = rw c.if-s-eq0.true
 
-returns-2 : tie.Need-returns-2
+returns-2 : tie.Need-returns
 returns-2 c =
-    let s = c.before.before in
-    sym (clocked_at _ s.args.s (omega arith) ∙ get_or-map (λ x. x.0) s.args.t1 _ (seconds (pos 0)))
+    sym (clocked_at _ c.args.s (omega arith) ∙ get_or-map (λ x. x.0) c.args.times _ (seconds (pos 0)))
 
 pub clocked_spec : {M : Type 1} → statement M
 clocked_spec = tie.close (tie.spec returns (λ c. search rules) (λ c. search rules) (λ c. search rules) returns-2)

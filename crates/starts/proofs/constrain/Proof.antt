@@ -16,14 +16,14 @@ use Rattle.starts.proofs.Places.{bounds_size, zone_of_lem}
 use Rattle.starts.proofs.constrain.Statement.{statement}
 use Rattle.starts.proofs.constrain.Tie as tie
 
-abbrev invariant-loop : tie.invariant-loop
+abbrev invariant-loop : tie.invariant-loop-i
 invariant-loop zone₀ n a b limit i₀ zone i =
     Filled n (bounds_in zone₀) (bounds_in zone) (via n (bounds_in zone₀) a b (as_bound limit)) i × (i ≤ suc n) × (length zone ≡ length zone₀)
 
-abbrev decreases-loop : tie.decreases-loop
+abbrev decreases-loop : tie.decreases-loop-i
 decreases-loop zone₀ n a b limit i₀ zone i = suc n - i
 
-loop-holds : tie.Need-loop-init invariant-loop decreases-loop
+loop-holds : tie.Need-loop-i-init invariant-loop decreases-loop
 loop-holds c = (rows_start _ _ _, omega arith, omega arith)
 
 -- the way round is not negative
@@ -33,63 +33,52 @@ around : (c : tie.Start invariant-loop decreases-loop) →
 around c = let t = c.requires.one.taking in not_around t.closed (inside t) c.requires.times
 
 -- the zone keeps its length
-stays : (c : tie.In-loop invariant-loop decreases-loop) → ZoneIn c.before.before.args.n c.before.loop.zone
+stays : (c : tie.In-loop-i invariant-loop decreases-loop) → ZoneIn c.args.n c.loop-i.zone
 stays c =
-    let z = zone_of_lem _ c.before.before.requires.one.taking in
+    let z = zone_of_lem _ c.requires.one.taking in
     record { few = z.few; size = omega (arith, z.size) }
 
-bound-at-requires : tie.Need-bound-at-requires invariant-loop decreases-loop
+bound-at-requires : tie.Need-bound_at-requires invariant-loop decreases-loop
 bound-at-requires c κs =
-    let l = c.before in
-    record { zone = stays l; row = omega arith; col = (inside l.before.before.requires.one.taking).row_fits }
+    record { zone = stays c; row = omega arith; col = (inside c.requires.one.taking).row_fits }
 
-plus-requires : tie.Need-plus-requires invariant-loop decreases-loop
+plus-requires : tie.Need-plus-way-requires invariant-loop decreases-loop
 plus-requires c κs =
-    small_mono (omega arith) (small_sum c.bound_at.ensures.small c.before.before.before.before.requires.one.small)
+    small_mono (omega arith) (small_sum c.bound_at.ensures.small c.requires.one.small)
 
 -- the way from row i by the new constraint
-way : (c : tie.After-plus invariant-loop decreases-loop) →
-    let l = c.before.before.before.before in
-    let s = l.before.args in
-    as_bound c.plus.result ≡ plus (entry (suc s.n) (bounds_in l.loop.zone) l.loop.i s.a) (as_bound s.limit)
+way : (c : tie.After-plus-way invariant-loop decreases-loop) →
+    let s = c.args in
+    as_bound c.plus-way.result ≡ plus (entry (suc s.n) (bounds_in c.loop-i.zone) c.loop-i.i s.a) (as_bound s.limit)
 way c =
-    let x = c.before in
-    c.plus.ensures ∙ ap (λ (l : Bound). plus l (as_bound x.before.before.before.before.args.limit)) x.bound_at.ensures.is
+    c.plus-way.ensures ∙ ap (λ (l : Bound). plus l (as_bound c.args.limit)) c.bound_at.ensures.is
 
-relax-row-requires : tie.Need-relax-row-requires invariant-loop decreases-loop
+relax-row-requires : tie.Need-relax_row-requires invariant-loop decreases-loop
 relax-row-requires c κs =
-    let p = c.before in
-    let l = p.before.before.before in
-    let s = l.before.before in
-    let one = s.requires.one in
+    let one = c.requires.one in
     record {
-      zone = stays l;
+      zone = stays c.before.before.before;
       row = omega arith;
       base = (inside one.taking).col_fits;
-      way_small = rw p.plus.ensures (small_sum p.before.bound_at.ensures.small one.small);
-      closed = next_closed one.taking (around s) l.before.loop.invariant.0 (omega arith) (way p);
-      new_small = next_small one.taking (around s) l.before.loop.invariant.0 (omega arith) (way p);
+      way_small = rw c.plus-way.ensures (small_sum c.bound_at.ensures.small one.small);
+      closed = next_closed one.taking (around c.before.before.before.before.before) c.loop-i.invariant.0 (omega arith) (way c.before);
+      new_small = next_small one.taking (around c.before.before.before.before.before) c.loop-i.invariant.0 (omega arith) (way c.before);
     }
 
-add-i : tie.Need-overflow-add-i invariant-loop decreases-loop
-add-i c = let s = c.before.before.before.before.before.before.before.before in omega (arith, s.requires.one.taking.few)
+add-i : tie.Need-overflow_add-i invariant-loop decreases-loop
+add-i c = omega (arith, c.requires.one.taking.few)
 
-loop-again : tie.Need-loop-preserved invariant-loop decreases-loop
+loop-again : tie.Need-loop-i-preserved invariant-loop decreases-loop
 loop-again c =
-    let q = c.before in
-    let p = q.before.before in
-    let l = p.before.before.before.before in
-    let s = l.before in
-    (row_taken s.requires.one.taking (around s) l.loop.invariant.0 (omega arith) (way p) q.relax-row.ensures, omega arith, omega arith)
+    (row_taken c.requires.one.taking (around c.before.before.before.before.before.before.before) c.loop-i.invariant.0 (omega arith) (way c.before.before.before) c.relax_row.ensures, omega arith, omega arith)
 
-same_length : tie.Need-same-length invariant-loop decreases-loop
-same_length c = c.before.loop.invariant.2
+same_length : tie.Need-shape_of-zone invariant-loop decreases-loop
+same_length c = c.loop-i.invariant.2
 
 returns : tie.Need-returns invariant-loop decreases-loop
 returns c =
-    let l = c.before in
-    let t = l.before.requires.one.taking in
-    all_taken t (around l.before) l.loop.invariant.0 (bounds_size _ ∙ omega (arith, zone_of_lem _ t)) (omega arith)
+    let t = c.requires.one.taking in
+    all_taken t (around c.before.before) c.loop-i.invariant.0 (bounds_size _ ∙ omega (arith, zone_of_lem _ t)) (omega arith)
 
 pub constrain_spec : {M : Type 1} → statement M
 constrain_spec =

@@ -9,34 +9,29 @@ use Rattle.starts.proofs.greatest_or.Tie as tie
 
 number-requires : tie.Need-number-requires
 number-requires c κs =
-    let k = c.before in
-    rw k.late.given.1 at k.before.before.requires.1
+    rw c.in-Upto.is at c.requires.1
 
-number-requires-2 : tie.Need-number-requires-2
+number-requires-2 : tie.Need-number-requires-in-Upto-early
 number-requires-2 c κs =
-    let k = c.before in
-    rw k.early.given.1 at k.before.before.before.before.requires.0
+    rw c.in-Upto-early.is at c.requires.0
 
 negated-requires : tie.Need-negated-requires
 negated-requires c κs =
-    let k = c.before.before in
-    let small = rw k.early.given.1 at k.before.before.before.before.requires.0 in
-    wide _ (let h = neg_small c.number2.result.0 (small_at small c.number2.ensures) in omega arith)
+    let small = rw c.in-Upto-early.is at c.requires.0 in
+    wide _ (let h = neg_small c.number-in-Upto-early.result.0 (small_at small c.number-in-Upto-early.ensures) in omega arith)
 
-returns : tie.Need-returns
+returns : tie.Need-returns-in-Upto
 unfolding greatest_or
-returns c = rw (c.before.before.late.given.1, c.number.ensures)
+returns c = rw (c.in-Upto.is, c.number.ensures)
 
-returns-2 : tie.Need-returns-2
+returns-2 : tie.Need-returns-in-Upto-early
 unfolding greatest_or
 returns-2 c =
-    let n = c.before in
-    let k = n.before.before in
-    rw (k.before.before.enum_told.given.1, k.early.given.1, n.number2.ensures) c.negated.ensures
+    rw (c.in-Blank.is, c.in-Upto-early.is, c.number-in-Upto-early.ensures) c.negated.ensures
 
-returns-3 : tie.Need-returns-3
+returns-3 : tie.Need-returns-in-Blank-early
 unfolding greatest_or
-returns-3 c = rw (c.before.before.enum_told.given.1, c.enum-told2.given.1)
+returns-3 c = rw (c.in-Blank.is, c.in-Blank-early.is)
 
 pub greatest_or_spec : {M : Type 1} → statement M
 greatest_or_spec =

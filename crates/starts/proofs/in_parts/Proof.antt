@@ -14,36 +14,34 @@ use Rattle.starts.proofs.Readied.{part_of, parts_are}
 use Rattle.starts.proofs.in_parts.Statement.{statement}
 use Rattle.starts.proofs.in_parts.Tie as tie
 
-abbrev invariant-loop : tie.invariant-loop
+abbrev invariant-loop : tie.invariant-loop-k
 invariant-loop zone parts bounds₀ k₀ k-end bounds k =
     (k ≤ length zone) × (k-end ≡ length zone) × (bounds_in (take k bounds) ≡ map (part_of parts) (take k zone)) × (length bounds ≡ most_numbers)
 
-abbrev decreases-loop : tie.decreases-loop
+abbrev decreases-loop : tie.decreases-loop-k
 decreases-loop zone parts bounds₀ k₀ k-end bounds k = length zone - k
 
-loop-holds : tie.Need-loop-init invariant-loop decreases-loop
+loop-holds : tie.Need-loop-k-init invariant-loop decreases-loop
 unfolding bounds_in
 loop-holds c = (omega arith, refl, refl, refl)
 
-loop-again : tie.Need-loop-preserved invariant-loop decreases-loop
+loop-again : tie.Need-loop-k-preserved invariant-loop decreases-loop
 unfolding bounds_in
 loop-again c =
-    let r = c.before in
-    let l = r.before.before.loop in
-    let s = r.before.before.before in
-    let back = to_z-of_z w64 c.part_of_lem.result (record { sfits = c.part_of_lem.type-inv }) in
-    let there = to_z-of_z w32 (get_or s.args.zone.now l.k (pos 0)) (record { sfits = r.raw.given }) in (
+    let l = c.loop-k in
+    let back = to_z-of_z w64 c.part_of.result (record { sfits = c.part_of.type_inv }) in
+    let there = to_z-of_z w32 (get_or c.args.zone.now l.k (pos 0)) (record { sfits = c.raw-1.given }) in (
       omega arith,
       l.invariant.1,
-      next_in bound_in (part_of s.args.parts) l.bounds s.args.zone.now l.k _ (pos 0) (omega arith) (omega arith) l.invariant.2
-          (ap bound_in back ∙ c.part_of_lem.ensures ∙ ap (part_of s.args.parts) there),
+      next_in bound_in (part_of c.args.parts) l.bounds c.args.zone.now l.k _ (pos 0) (omega arith) (omega arith) l.invariant.2
+          (ap bound_in back ∙ c.part_of.ensures ∙ ap (part_of c.args.parts) there),
       length-set l.bounds l.k _ ∙ l.invariant.3,
     )
 
 returns : tie.Need-returns invariant-loop decreases-loop
 returns c =
-    let l = c.before.loop in
-    let s = c.before.before.args in
+    let l = c.loop-k in
+    let s = c.args in
     let e : l.k ≡ length s.zone.now = omega arith in
     record { is = parts_are s.parts s.zone.now _ (rw e at l.invariant.2); long = l.invariant.3 }
 
@@ -56,7 +54,7 @@ in_parts_spec =
     loop-holds
     (λ c. omega arith)
     (λ c. omega arith)
-    (λ c κs. c.before.before.before.requires.1)
+    (λ c κs. c.requires.1)
     (λ c. omega arith)
     (λ c. omega arith)
     (λ c. omega arith)

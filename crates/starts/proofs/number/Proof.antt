@@ -20,16 +20,15 @@ bit_told s = last_is _ (halves_fit _ s.requires)
 sum_told : (s : tie.Start) → let z = s.args.halves.0 in to_z w64 (of_z w64 (z +ℤ last z)) ≡ z +ℤ last z
 sum_told s = to_z-of_z w64 _ (sum_fits _ s.requires)
 
-add-t3 : tie.Need-overflow-add-t3
-add-t3 c = let s = c.before.before.before.before in rw (told s, bit_told s) (sum_fits _ s.requires)
+add-t3 : tie.Need-overflow_add-result
+add-t3 c = rw (told c.before.before.before.before, bit_told c.before.before.before.before) (sum_fits _ c.requires)
 
-div-t4 : tie.Need-nonzero-div-t4
-div-t4 c = let s = c.before.before.before.before in (omega arith, rw (told s, bit_told s, sum_told s) (number_fits _ s.requires))
+div-t4 : tie.Need-nonzero_div-result
+div-t4 c = (omega arith, rw (told c.before.before.before.before, bit_told c.before.before.before.before, sum_told c.before.before.before.before) (number_fits _ c.requires))
 
 returns : tie.Need-returns
 returns c =
-    let s = c.before.before.before.before in
-    rw (told s, bit_told s, sum_told s, to_z-of_z w64 _ (number_fits _ s.requires)) (number_is s.args.halves.0)
+    rw (told c.before.before.before.before, bit_told c.before.before.before.before, sum_told c.before.before.before.before, to_z-of_z w64 _ (number_fits _ c.requires)) (number_is c.args.halves.0)
 
 pub number_spec : {M : Type 1} → statement M
 number_spec = tie.close (tie.spec add-t3 div-t4 returns)

@@ -13,16 +13,15 @@ use Rattle.starts.proofs.Places.{stored}
 use Rattle.starts.proofs.number_of.Statement.{statement}
 use Rattle.starts.proofs.number_of.Tie as tie
 
-returns : tie.Need-returns
+returns : tie.Need-returns-in-Blank
 unfolding bound_in
-returns c = rw c.enum_told.given.1
+returns c = rw c.in-Blank.is
 
-returns-2 : tie.Need-returns-2
+returns-2 : tie.Need-returns-in-Upto
 returns-2 c =
-    let k = c.before.before in
-    let z = k.bound.given.0.0.0 in
-    let h : nat_abs z ≤ Largest = (let m = halves_size z (rw k.bound.given.1 at k.before.before.requires) in omega (ints, abs_ud z)) in
-    rw (to_z-of_z w64 z (wide z (omega arith)), k.bound.given.1) (stored z h)
+    let z = c.in-Upto.c.0 in
+    let h : nat_abs z ≤ Largest = (let m = halves_size z (rw c.in-Upto.is at c.requires) in omega (ints, abs_ud z)) in
+    rw (to_z-of_z w64 z (wide z (omega arith)), c.in-Upto.is) (stored z h)
 
 pub number_of_spec : {M : Type 1} → statement M
 number_of_spec = tie.close (tie.spec (λ c. search rules) (λ c. search rules) returns returns-2)

@@ -16,45 +16,36 @@ use Rattle.starts.proofs.part_of.Statement.{statement}
 use Rattle.starts.proofs.part_of.Tie as tie
 
 -- the number that was read
-read : (c : tie.After-read) → as_bound c.read.result ≡ Memory.bound_in c.before.args.raw
-read c = rw (to_z-of_z w32 c.before.args.raw c.before.ranges.raw) at c.read.ensures.is
+read : (c : tie.After-read) → as_bound c.read.result ≡ Memory.bound_in c.args.raw
+read c = rw (to_z-of_z w32 c.args.raw c.ranges.raw) at c.read.ensures.is
 
-returns : tie.Need-returns
+returns : tie.Need-returns-in_default
 unfolding bound_in scale whole
 returns c =
-    let b = c.before.before in
-    rw (sym (read b) ∙ ap as_bound c.enum_told.given.1)
+    rw (sym (read c.before) ∙ ap as_bound c.in_default.is)
 
 part-requires : tie.Need-part-requires
 part-requires c κs =
-    let k = c.before in
-    let b = k.before.before in
-    (rw k.halves.given.1 at b.read.ensures.small, b.before.requires)
+    (rw c.in-Upto.is at c.read.ensures.small, c.requires)
 
 -- it is small in parts too
 small : (c : tie.After-part) → Small Stored (most c.part.result.0)
 small c =
-    let k = c.before.before in
-    let b = k.before.before in
-    let few = b.before.requires in
+    let few = c.requires in
     rw c.part.ensures (small_mono (omega (arith, mul-le-mul_left InMemory few))
-    (small_whole (small_scale b.before.args.parts (rw k.halves.given.1 at b.read.ensures.small))))
+    (small_whole (small_scale c.args.parts (rw c.in-Upto.is at c.read.ensures.small))))
 
 of-requires : tie.Need-of-requires
 of-requires c κs = let h = small_size (small c) in omega arith
 
-number-of-requires : tie.Need-number-of-requires
+number-of-requires : tie.Need-number_of-requires
 number-of-requires c κs = rw c.of.ensures (small c.before)
 
-returns-2 : tie.Need-returns-2
+returns-2 : tie.Need-returns
 returns-2 c =
-    let o = c.before in
-    let p = o.before in
-    let k = p.before.before in
-    let b = k.before.before in
-    rw (to_z-of_z w64 c.number_of_lem.result (record { sfits = c.number_of_lem.type-inv }))
-    (c.number_of_lem.ensures ∙ o.of.ensures ∙ p.part.ensures
-    ∙ ap (λ (d : Bound). whole (scale b.before.args.parts d)) (ap as_bound (sym k.halves.given.1) ∙ read b))
+    rw (to_z-of_z w64 c.number_of.result (record { sfits = c.number_of.type_inv }))
+    (c.number_of.ensures ∙ c.of.ensures ∙ c.part.ensures
+    ∙ ap (λ (d : Bound). whole (scale c.args.parts d)) (ap as_bound (sym c.in-Upto.is) ∙ read c.before.before.before.before))
 
 pub part_of_spec : {M : Type 1} → statement M
 part_of_spec =

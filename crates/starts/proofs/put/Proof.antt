@@ -8,16 +8,15 @@ use Rattle.starts.proofs.Places.{bound_put}
 use Rattle.starts.proofs.put.Statement.{statement}
 use Rattle.starts.proofs.put.Tie as tie
 
-here : (c : tie.After-place) → let s = c.before in PlaceOf (suc s.args.n) s.args.i s.args.j c.place.result
-here c = rw add-one at c.place.ensures
+here : (c : tie.After-place-k) → PlaceOf (suc c.args.n) c.args.i c.args.j c.place-k.result
+here c = rw add-one at c.place-k.ensures
 
-slice-set-from-zone : tie.Need-slice-set-from-zone
-slice-set-from-zone c = let s = c.before.before in omega (arith, (here c.before).below (suc s.args.n) s.requires.0.row)
+slice-set-from-zone : tie.Need-bounds-zone-k
+slice-set-from-zone c = omega (arith, (here c.before).below (suc c.args.n) c.requires.0.row)
 
 returns : tie.Need-returns
 returns c =
-    let p = c.before in
-    rw (← (here p).is) (bound_put _ p.place.result c.number_of_lem.result _ (record { sfits = c.number_of_lem.type-inv }) c.number_of_lem.ensures)
+    rw (← (here c.before).is) (bound_put _ c.place-k.result c.number_of.result _ (record { sfits = c.number_of.type_inv }) c.number_of.ensures)
 
 pub put_spec : {M : Type 1} → statement M
 put_spec =

@@ -15,57 +15,45 @@ use Rattle.starts.proofs.Places.{bounds_size}
 use Rattle.starts.proofs.relax_entries.Statement.{statement}
 use Rattle.starts.proofs.relax_entries.Tie as tie
 
-abbrev invariant-loop : tie.invariant-loop
+abbrev invariant-loop : tie.invariant-loop-j
 invariant-loop zone₀ n i b way j₀ zone j =
     RowFilled n (bounds_in zone₀) (bounds_in zone) (across n (bounds_in zone₀) i b (as_bound way)) i j × (j ≤ suc n) × (length zone ≡ length zone₀)
 
-abbrev decreases-loop : tie.decreases-loop
+abbrev decreases-loop : tie.decreases-loop-j
 decreases-loop zone₀ n i b way j₀ zone j = suc n - j
 
-loop-holds : tie.Need-loop-init invariant-loop decreases-loop
+loop-holds : tie.Need-loop-j-init invariant-loop decreases-loop
 loop-holds c = (row_start _ _ _ _, omega arith, omega arith)
 
 plus-requires : tie.Need-plus-requires invariant-loop decreases-loop
 plus-requires c κs =
-    let s = c.before.before.before.before.before.before in
-    small_mono (omega arith) (small_sum s.requires.way_small c.bound-at2.ensures.small)
+    small_mono (omega arith) (small_sum c.requires.way_small c.bound_at-rest.ensures.small)
 
 -- the new entry
-new : (c : tie.After-tighter invariant-loop decreases-loop) →
-    let l = c.before.before.before.before.before.before in
-    let s = l.before.before.args in
-    as_bound c.tighter.result ≡ across s.n (bounds_in l.before.loop.zone) s.i s.b (as_bound s.way) l.before.loop.j
+new : (c : tie.After-tighter-new invariant-loop decreases-loop) →
+    let s = c.args in
+    as_bound c.tighter-new.result ≡ across s.n (bounds_in c.loop-j.zone) s.i s.b (as_bound s.way) c.loop-j.j
 new c =
-    let p = c.before in
-    let y = p.before in
-    let x = y.before.before in
-    let l = x.before.before in
-    c.tighter.ensures
-    ∙ ap₂ tighter x.bound_at.ensures.is (p.plus.ensures ∙ ap (plus (as_bound l.before.before.args.way)) y.bound-at2.ensures.is)
+    c.tighter-new.ensures
+    ∙ ap₂ tighter c.bound_at-old.ensures.is (c.plus.ensures ∙ ap (plus (as_bound c.args.way)) c.bound_at-rest.ensures.is)
 
 put-requires : tie.Need-put-requires invariant-loop decreases-loop
 put-requires c κs =
-    let l = c.before.before.before.before.before.before.before in
-    let s = l.before.before in
-    let e = new c.before ∙ new_is (as_bound s.args.way) l.before.loop.invariant.0 s.requires.base (omega arith) in
-    (omega arith, rw e (s.requires.new_small _ (omega arith)))
+    let e = new c.before ∙ new_is (as_bound c.args.way) c.loop-j.invariant.0 c.requires.base (omega arith) in
+    (omega arith, rw e (c.requires.new_small _ (omega arith)))
 
-loop-again : tie.Need-loop-preserved invariant-loop decreases-loop
+loop-again : tie.Need-loop-j-preserved invariant-loop decreases-loop
 loop-again c =
-    let p = c.before in
-    let t = p.before.before in
-    let l = t.before.before.before.before.before.before in
-    let s = l.before.before in
-    let next = row_relaxed (as_bound s.args.way) l.before.loop.invariant.0 s.requires.base (omega arith) in
-    (rw p.put.ensures (next _ (bounds_size _ ∙ omega arith) (omega arith) (new t)), omega arith, omega arith)
+    let next = row_relaxed (as_bound c.args.way) c.loop-j.invariant.0 c.requires.base (omega arith) in
+    (rw c.put.ensures (next _ (bounds_size _ ∙ omega arith) (omega arith) (new c.before.before.before)), omega arith, omega arith)
 
-same_length : tie.Need-same-length invariant-loop decreases-loop
-same_length c = c.before.loop.invariant.2
+same_length : tie.Need-shape_of-zone invariant-loop decreases-loop
+same_length c = c.loop-j.invariant.2
 
 returns : tie.Need-returns invariant-loop decreases-loop
 returns c =
-    let e : c.before.loop.j ≡ suc c.before.before.args.n = omega arith in
-    rw e at c.before.loop.invariant.0
+    let e : c.loop-j.j ≡ suc c.args.n = omega arith in
+    rw e at c.loop-j.invariant.0
 
 pub relax_entries_spec : {M : Type 1} → statement M
 relax_entries_spec =

@@ -5,16 +5,13 @@ use Rattle.memory.proofs.Relaxing.{row_left, row_implied}
 use Rattle.starts.proofs.relax_row.Statement.{statement}
 use Rattle.starts.proofs.relax_row.Tie as tie
 
-returns : tie.Need-returns
-returns c = rw c.enum_told.given.1 (row_left _ _ _ _)
+returns : tie.Need-returns-in_default
+returns c = rw c.in_default.is (row_left _ _ _ _)
 
-returns-2 : tie.Need-returns-2
+returns-2 : tie.Need-returns-then-implies
 returns-2 c =
-    let i = c.before in
-    let x = i.before in
-    let w = x.before.before.before in
-    let le = rw x.bound_at.ensures.is at (i.implies.ensures c.if1.true) in
-    rw w.way.given.1 (row_implied (rw w.way.given.1 at w.before.before.requires) le)
+    let le = rw c.bound_at.ensures.is at (c.implies.ensures c.if-implies.true) in
+    rw c.in-Upto.is (row_implied (rw c.in-Upto.is at c.requires) le)
 
 pub relax_row_spec : {M : Type 1} → statement M
 relax_row_spec =
@@ -27,6 +24,6 @@ relax_row_spec =
     (λ c κs. search rules)
     (λ c. search rules)
     returns-2
-    (λ c κs. rw c.before.before.before.before.before.before.way.given.1 at c.before.before.before.before.before.before.before.before.requires)
+    (λ c κs. rw c.in-Upto.is at c.requires)
     (λ c. search rules)
-    (λ c. rw c.before.before.before.before.before.before.before.before.way.given.1 c.before.relax-entries.ensures))
+    (λ c. rw c.in-Upto.is c.relax_entries.ensures))

@@ -11,33 +11,25 @@ use Rattle.starts.proofs.Readied.{start_in_lem}
 use Rattle.starts.proofs.start.Statement.{statement}
 use Rattle.starts.proofs.start.Tie as tie
 
-array-share-prefix-wholes : tie.Need-array-share-prefix-wholes
+array-share-prefix-wholes : tie.Need-slice_bounds-wholes-end
 array-share-prefix-wholes c =
-    let z = c.before in
-    part_room z.before.requires.departures z.zone_size_lem.ensures c.whole_zone.result c.whole_zone.ensures.long
+    part_room c.requires.departures c.zone_size-size.ensures c.whole_zone-wholes.result c.whole_zone-wholes.ensures.long
 
-slice-aggregate-pick : tie.Need-slice-aggregate-pick
+slice-aggregate-pick : tie.Need-slice_bounds-pick-end
 slice-aggregate-pick c =
-    let t = c.before in
-    let z = t.before in
-    sym (part_long z.before.requires.departures z.zone_size_lem.ensures t.whole_zone.result t.whole_zone.ensures.long)
+    sym (part_long c.requires.departures c.zone_size-size.ensures c.whole_zone-wholes.result c.whole_zone-wholes.ensures.long)
 
 pick-requires : tie.Need-pick-requires
 pick-requires c κs =
-    let t = c.before in
-    let z = t.before in
-    let d = z.before.requires.departures in
-    (d, part_zone d z.zone_size_lem.ensures t.whole_zone.result t.whole_zone.ensures.long)
+    let d = c.requires.departures in
+    (d, part_zone d c.zone_size-size.ensures c.whole_zone-wholes.result c.whole_zone-wholes.ensures.long)
 
 returns : tie.Need-returns
 returns c =
-    let t = c.before.before in
-    let z = t.before in
-    let s = z.before in
     c.pick.ensures
-    ∙ ap (λ (numbers : List ℤ). all_times (pick s.args.n (bounds_in numbers)))
-    (part_is s.requires.departures z.zone_size_lem.ensures t.whole_zone.result t.whole_zone.ensures.long)
-    ∙ ap all_times (start_in_lem s.args.n s.args.parts _ _ t.whole_zone.ensures.is)
+    ∙ ap (λ (numbers : List ℤ). all_times (pick c.args.n (bounds_in numbers)))
+    (part_is c.requires.departures c.zone_size-size.ensures c.whole_zone-wholes.result c.whole_zone-wholes.ensures.long)
+    ∙ ap all_times (start_in_lem c.args.n c.args.parts _ _ c.whole_zone-wholes.ensures.is)
 
 pub start_spec : {M : Type 1} → statement M
 start_spec =

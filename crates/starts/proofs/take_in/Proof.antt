@@ -15,68 +15,57 @@ use Rattle.starts.proofs.Places.{zone_of_lem}
 use Rattle.starts.proofs.take_in.Statement.{statement}
 use Rattle.starts.proofs.take_in.Tie as tie
 
-returns : tie.Need-returns
+returns : tie.Need-returns-in_default
 returns c =
-    let p = rw c.enum_told.given.1 at c.before.before.requires in
-    rw c.enum_told.given.1 (is_kept (all_left p.taking.closed (inside p.taking) any))
+    let p = rw c.in_default.is at c.requires in
+    rw c.in_default.is (is_kept (all_left p.taking.closed (inside p.taking) any))
 
 -- the constraint can be taken in
-taking : (c : tie.After-known-told) → let s = c.before.before.before in let l = c.before.limit.given.0 in
-    TakingOne s.args.n s.args.zone.now s.args.a s.args.b (of_halves l.0.0)
-taking c = rw c.before.limit.given.1 at c.before.before.before.requires
+taking : (c : tie.In-Upto) → let l = c.in-Upto.c.0 in
+    TakingOne c.args.n c.args.zone.now c.args.a c.args.b (of_halves l)
+taking c = rw c.in-Upto.is at c.requires
 
-bound-at-requires : tie.Need-bound-at-requires
+bound-at-requires : tie.Need-bound_at-requires
 bound-at-requires c κs =
-    let t = (taking c.before).taking in
+    let t = (taking c).taking in
     record { zone = zone_of_lem _ t; row = (inside t).row_fits; col = (inside t).col_fits }
 
-returns-2 : tie.Need-returns-2
+returns-2 : tie.Need-returns-then-implies
 returns-2 c =
-    let i = c.before in
-    let x = i.before in
-    let k = x.before.before in
-    let t = (taking k).taking in
-    rw k.before.limit.given.1 (is_kept (all_left t.closed (inside t) (rw x.bound_at.ensures.is at (i.implies.ensures c.if1.true))))
+    let t = (taking c.before.before.before).taking in
+    rw c.in-Upto.is (is_kept (all_left t.closed (inside t) (rw c.bound_at.ensures.is at (c.implies.ensures c.if-implies.true))))
 
-bound-at-requires-2 : tie.Need-bound-at-requires-2
+bound-at-requires-2 : tie.Need-bound_at-requires-2
 bound-at-requires-2 c κs =
-    let t = (taking c.before.before.before.before.before).taking in
+    let t = (taking c.before.before.before).taking in
     record { zone = zone_of_lem _ t; row = (inside t).col_fits; col = (inside t).row_fits }
 
-plus-requires : tie.Need-plus-requires
+plus-requires : tie.Need-plus-around-requires
 plus-requires c κs =
-    small_mono (omega arith) (small_sum c.bound-at2.ensures.small (taking c.before.before.before.before.before.before).small)
+    small_mono (omega arith) (small_sum c.bound_at-2.ensures.small (taking c.before.before.before.before).small)
 
 -- the way round
 around : (c : tie.After-negative) →
-    let k = c.before.before.before.before.before.before.before.before in
-    let s = k.before.before.before.args in
-    negative (plus (entry (suc s.n) (bounds_in s.zone.now) s.b s.a) (of_halves k.before.limit.given.0.0.0)) ≡ c.negative.result
+    let s = c.args in
+    negative (plus (entry (suc s.n) (bounds_in s.zone.now) s.b s.a) (of_halves c.in-Upto.c.0)) ≡ c.negative.result
 around c =
-    let p = c.before in
-    let x = p.before in
-    let k = x.before.before.before.before.before.before in
-    let limit = of_halves k.before.limit.given.0.0.0 in
-    sym (c.negative.ensures ∙ ap negative (p.plus.ensures ∙ ap (λ (l : Bound). plus l limit) x.bound-at2.ensures.is))
+    let limit = of_halves c.in-Upto.c.0 in
+    sym (c.negative.ensures ∙ ap negative (c.plus-around.ensures ∙ ap (λ (l : Bound). plus l limit) c.bound_at-2.ensures.is))
 
-returns-3 : tie.Need-returns-3
+returns-3 : tie.Need-returns-then-negative
 returns-3 c =
-    let k = c.before.before.before.before.before.before.before.before.before in
-    let t = (taking k).taking in
-    rw k.before.limit.given.1 (is_gone (none_left t.closed (inside t) (around c.before ∙ c.if2.true)))
+    let t = (taking c.before.before.before.before.before.before.before).taking in
+    rw c.in-Upto.is (is_gone (none_left t.closed (inside t) (around c.before ∙ c.if-negative.true)))
 
 constrain-requires : tie.Need-constrain-requires
 constrain-requires c κs =
-    let e = c.before in
-    let p = taking e.before.before.before.before.before.before.before.before.before in
+    let p = taking c.before.before.before.before.before.before.before.before in
     let t = p.taking in
-    record { one = p; times = record { zone = _; is = some_left t.closed (inside t) (around e.before ∙ e.if2.false) } }
+    record { one = p; times = record { zone = _; is = some_left t.closed (inside t) (around c.before.before ∙ c.if-negative.false) } }
 
-returns-4 : tie.Need-returns-4
+returns-4 : tie.Need-returns
 returns-4 c =
-    let e = c.before.before.before in
-    let k = e.before.before.before.before.before.before.before.before.before in
-    rw k.before.limit.given.1 (is_kept c.before.constrain.ensures)
+    rw c.in-Upto.is (is_kept c.constrain.ensures)
 
 pub take_in_spec : {M : Type 1} → statement M
 take_in_spec =

@@ -15,51 +15,40 @@ use Rattle.starts.proofs.Readied.{all_ready, bounds_ready, wholes_are}
 use Rattle.starts.proofs.whole_zone.Statement.{statement}
 use Rattle.starts.proofs.whole_zone.Tie as tie
 
-in-parts-requires : tie.Need-in-parts-requires
+in-parts-requires : tie.Need-in_parts-bounds-requires
 in-parts-requires c κs =
-    let p = c.before.requires in
+    let p = c.requires in
     (let h = zone_fits p.departures in omega (arith, p.source.size), p.few_parts)
 
-array-share-prefix-bounds : tie.Need-array-share-prefix-bounds
+array-share-prefix-bounds : tie.Need-slice_bounds-bounds-end
 array-share-prefix-bounds c =
-    let p = c.before in
-    let z = p.before in
-    part_room z.before.requires.departures z.zone_size_lem.ensures p.in_parts_lem.result p.in_parts_lem.ensures.long
+    part_room c.requires.departures c.zone_size-size.ensures c.in_parts-bounds.result c.in_parts-bounds.ensures.long
 
-slice-aggregate-tightened : tie.Need-slice-aggregate-tightened
+slice-aggregate-tightened : tie.Need-slice_bounds-tightened-end
 slice-aggregate-tightened c =
-    let p = c.before.before in
-    let z = p.before in
-    sym (part_long z.before.requires.departures z.zone_size_lem.ensures p.in_parts_lem.result p.in_parts_lem.ensures.long)
+    sym (part_long c.requires.departures c.zone_size-size.ensures c.in_parts-bounds.result c.in_parts-bounds.ensures.long)
 
 -- the bounds are the zone's, in parts
-there : (c : tie.After-in-parts) →
-    let z = c.before in
-    let s = z.before.args in
-    bounds_in (take z.zone_size_lem.result c.in_parts_lem.result) ≡ map whole (map (scale s.parts) (Memory.bounds_in s.zone.now))
+there : (c : tie.After-in_parts-bounds) →
+    let s = c.args in
+    bounds_in (take c.zone_size-size.result c.in_parts-bounds.result) ≡ map whole (map (scale s.parts) (Memory.bounds_in s.zone.now))
 there c =
-    let z = c.before in
-    ap (λ (k : ℕ). bounds_in (take k c.in_parts_lem.result)) (z.zone_size_lem.ensures ∙ sym z.before.requires.source.size) ∙ c.in_parts_lem.ensures.is
+    ap (λ (k : ℕ). bounds_in (take k c.in_parts-bounds.result)) (c.zone_size-size.ensures ∙ sym c.requires.source.size) ∙ c.in_parts-bounds.ensures.is
 
 -- and leave some times
-ready : (c : tie.After-in-parts) → let z = c.before in BoundsReady z.before.args.n (take z.zone_size_lem.result c.in_parts_lem.result)
+ready : (c : tie.After-in_parts-bounds) → BoundsReady c.args.n (take c.zone_size-size.result c.in_parts-bounds.result)
 ready c =
-    let z = c.before in
-    let pre = z.before.requires in
-    bounds_ready pre _ (there c) (part_zone pre.departures z.zone_size_lem.ensures c.in_parts_lem.result c.in_parts_lem.ensures.long)
+    let pre = c.requires in
+    bounds_ready pre _ (there c) (part_zone pre.departures c.zone_size-size.ensures c.in_parts-bounds.result c.in_parts-bounds.ensures.long)
 
 tightened-requires : tie.Need-tightened-requires
 tightened-requires c κs =
-    let t = c.before in
-    let p = t.before in
-    (p.before.before.requires.departures, all_ready _ (ready p) t.all-times.ensures.0, t.all-times.ensures.1)
+    (c.requires.departures, all_ready _ (ready c.before.before) c.all_times.ensures.0, c.all_times.ensures.1)
 
 returns : tie.Need-returns
 returns c =
-    let t = c.before.before in
-    let p = t.before in
-    let left = rw t.all-times.ensures.0 at c.tightened.ensures.left in
-    record { is = wholes_are p.before.before.requires _ (there p) left; long = c.tightened.ensures.long }
+    let left = rw c.all_times.ensures.0 at c.tightened.ensures.left in
+    record { is = wholes_are c.requires _ (there c.before.before.before) left; long = c.tightened.ensures.long }
 
 pub whole_zone_spec : {M : Type 1} → statement M
 whole_zone_spec =

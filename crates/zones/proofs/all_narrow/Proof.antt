@@ -11,24 +11,23 @@ use Rattle.zones.specs.Inner.{RowNarrow}
 use Rattle.zones.proofs.all_narrow.Statement.{statement}
 use Rattle.zones.proofs.all_narrow.Tie as tie
 
-abbrev invariant-loop : tie.invariant-loop
+abbrev invariant-loop : tie.invariant-loop-j
 invariant-loop row count all₀ j₀ all j = (j ≤ count) × (all ≡ true → RowNarrow j row)
 
-abbrev decreases-loop : tie.decreases-loop
+abbrev decreases-loop : tie.decreases-loop-j
 decreases-loop row count all₀ j₀ all j = count - j
 
-loop-again : tie.Need-loop-preserved invariant-loop decreases-loop
+loop-again : tie.Need-loop-j-preserved invariant-loop decreases-loop
 loop-again c =
-    let r = c.before in
-    let l = r.before.before.loop in (
+    let l = c.loop-j in (
       omega arith,
       λ e.
-          let h = and_true l.all c.is-narrow.result e in
-          below_more _ _ (l.invariant.1 h.0) (rw (to_z-of_z w32 _ (record { sfits = r.raw.given })) at (c.is-narrow.ensures h.1)),
+          let h = and_true l.all c.is_narrow-all.result e in
+          below_more _ _ (l.invariant.1 h.0) (rw (to_z-of_z w32 _ (record { sfits = c.raw-1.given })) at (c.is_narrow-all.ensures h.1)),
     )
 
 returns : tie.Need-returns invariant-loop decreases-loop
-returns c e j h = c.before.loop.invariant.1 e j (omega arith)
+returns c e j h = c.loop-j.invariant.1 e j (omega arith)
 
 pub all_narrow_spec : {M : Type 1} → statement M
 all_narrow_spec =

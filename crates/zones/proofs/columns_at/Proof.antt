@@ -5,10 +5,9 @@ use native.Mathlib.Nat.{mul-le-mul_right}
 use Rattle.zones.proofs.columns_at.Statement.{statement}
 use Rattle.zones.proofs.columns_at.Tie as tie
 
-returns-2 : tie.Need-returns-2
+returns-2 : tie.Need-returns
 returns-2 c =
-    let s = c.before.before in
-    record { whole = omega arith; few = omega arith; room = omega (arith, mul-le-mul_right (suc s.args.n) s.requires.1) }
+    record { whole = omega arith; few = omega arith; room = omega (arith, mul-le-mul_right (suc c.args.n) c.requires.1) }
 
 pub columns_at_spec : {M : Type 1} → statement M
 columns_at_spec =
@@ -16,7 +15,7 @@ columns_at_spec =
     (tie.spec
     (λ c. omega arith)
     (λ c κs. omega arith)
-    (λ c. omega (arith, c.place.ensures.few))
+    (λ c. omega (arith, c.place-base.ensures.few))
     (λ c. omega arith)
     (λ c. omega arith)
     returns-2)

@@ -14,15 +14,15 @@ use Rattle.memory.proofs.Leaving.{given_up, onward, arrived}
 use Rattle.zones.proofs.common.Statement.{statement}
 use Rattle.zones.proofs.common.Tie as tie
 
-abbrev invariant-loop : tie.invariant-loop
+abbrev invariant-loop : tie.invariant-loop-i
 invariant-loop zone₀ pattern n i₀ zone i =
     Toward n Limit (bounds_in zone₀) (pattern_constraints n (bounds_in pattern)) (bounds_in zone) (flatten (from (pair_row n (bounds_in pattern)) (suc n) i))
     × (i ≤ suc n) × (length zone ≡ length zone₀)
 
-abbrev decreases-loop : tie.decreases-loop
+abbrev decreases-loop : tie.decreases-loop-i
 decreases-loop zone₀ pattern n i₀ zone i = suc n - i
 
-loop-holds : tie.Need-loop-init invariant-loop decreases-loop
+loop-holds : tie.Need-loop-i-init invariant-loop decreases-loop
 unfolding pattern_constraints
 loop-holds c =
     let n = c.args.n in
@@ -33,29 +33,26 @@ loop-holds c =
       refl,
     )
 
-common-row-requires : tie.Need-common-row-requires invariant-loop decreases-loop
+common-row-requires : tie.Need-common_row-requires invariant-loop decreases-loop
 common-row-requires c κs =
-    let l = c.before in
-    record { taking = first_of (next_list _ _ _ (omega arith)) l.before.loop.invariant.0; limits = l.before.before.requires.limits; row = omega arith }
+    record { taking = first_of (next_list _ _ _ (omega arith)) c.loop-i.invariant.0; limits = c.requires.limits; row = omega arith }
 
-returns : tie.Need-returns invariant-loop decreases-loop
+returns : tie.Need-returns-then-not-common_row invariant-loop decreases-loop
 returns c =
-    let k = c.before.before in
-    given_up (next_list _ _ _ (omega arith)) k.before.before.before.loop.invariant.0 k.common-row.ensures c.if1.true
+    given_up (next_list _ _ _ (omega arith)) c.loop-i.invariant.0 c.common_row.ensures c.if-not-common_row.true-raw
 
-add-i : tie.Need-overflow-add-i invariant-loop decreases-loop
-add-i c = let s = c.before.before.before.before.before.before in omega (arith, s.requires.limits.departures.few)
+add-i : tie.Need-overflow_add-i invariant-loop decreases-loop
+add-i c = omega (arith, c.requires.limits.departures.few)
 
-loop-again : tie.Need-loop-preserved invariant-loop decreases-loop
+loop-again : tie.Need-loop-i-preserved invariant-loop decreases-loop
 loop-again c =
-    let k = c.before.before in
-    (onward (next_list _ _ _ (omega arith)) k.before.before.before.loop.invariant.0 k.common-row.ensures c.if1.false, omega arith, omega arith)
+    (onward (next_list _ _ _ (omega arith)) c.loop-i.invariant.0 c.common_row.ensures c.if-not-common_row.false-raw, omega arith, omega arith)
 
-same-length-2 : tie.Need-same-length-2 invariant-loop decreases-loop
-same-length-2 c = c.before.loop.invariant.2
+same-length-2 : tie.Need-shape_of-zone invariant-loop decreases-loop
+same-length-2 c = c.loop-i.invariant.2
 
-returns-2 : tie.Need-returns-2 invariant-loop decreases-loop
-returns-2 c = arrived c.before.loop.invariant.0 (end_list _ _ _ (omega arith))
+returns-2 : tie.Need-returns invariant-loop decreases-loop
+returns-2 c = arrived c.loop-i.invariant.0 (end_list _ _ _ (omega arith))
 
 pub common_spec : {M : Type 1} → statement M
 common_spec =

@@ -12,50 +12,45 @@ use Rattle.memory.proofs.Leaving.{given_up, onward, arrived}
 use Rattle.zones.proofs.common_row.Statement.{statement}
 use Rattle.zones.proofs.common_row.Tie as tie
 
-abbrev invariant-loop : tie.invariant-loop
+abbrev invariant-loop : tie.invariant-loop-j
 invariant-loop zone₀ pattern n i j₀ zone j =
     Toward n Limit (bounds_in zone₀) (pair_row n (bounds_in pattern) i) (bounds_in zone) (from (pair_limit n (bounds_in pattern) i) (suc n) j)
     × (j ≤ suc n) × (length zone ≡ length zone₀)
 
-abbrev decreases-loop : tie.decreases-loop
+abbrev decreases-loop : tie.decreases-loop-j
 decreases-loop zone₀ pattern n i j₀ zone j = suc n - j
 
-loop-holds : tie.Need-loop-init invariant-loop decreases-loop
+loop-holds : tie.Need-loop-j-init invariant-loop decreases-loop
 loop-holds c =
     (toward_start c.requires.taking (from_first _ (suc c.args.n) 0 (suc c.args.n) (omega arith)), omega arith, refl)
 
-pair-bound-requires : tie.Need-pair-bound-requires invariant-loop decreases-loop
-pair-bound-requires c κs = let p = c.before.before.requires in record { pattern = p.limits; row = p.row; col = omega arith }
+pair-bound-requires : tie.Need-pair_bound-limit-requires invariant-loop decreases-loop
+pair-bound-requires c κs = let p = c.requires in record { pattern = p.limits; row = p.row; col = omega arith }
 
-take-in-requires : tie.Need-take-in-requires invariant-loop decreases-loop
+take-in-requires : tie.Need-take_in-requires invariant-loop decreases-loop
 take-in-requires c κs =
-    let b = c.before in
-    let q = b.pair-bound.ensures in
-    record { taking = rw q.is (first_of (next_one _ _ _ (omega arith)) b.before.before.loop.invariant.0); small = small_mono (omega arith) q.small }
+    let q = c.pair_bound-limit.ensures in
+    record { taking = rw q.is (first_of (next_one _ _ _ (omega arith)) c.loop-j.invariant.0); small = small_mono (omega arith) q.small }
 
-returns : tie.Need-returns invariant-loop decreases-loop
+returns : tie.Need-returns-then-not-take_in invariant-loop decreases-loop
 returns c =
-    let k = c.before.before in
-    let b = k.before.before in
-    given_up (next_one _ _ _ (omega arith)) b.before.before.loop.invariant.0 (rw b.pair-bound.ensures.is at k.take_in.ensures) c.if1.true
+    given_up (next_one _ _ _ (omega arith)) c.loop-j.invariant.0 (rw c.pair_bound-limit.ensures.is at c.take_in.ensures) c.if-not-take_in.true-raw
 
-add-j : tie.Need-overflow-add-j invariant-loop decreases-loop
-add-j c = let s = c.before.before.before.before.before.before.before in omega (arith, s.requires.limits.departures.few)
+add-j : tie.Need-overflow_add-j invariant-loop decreases-loop
+add-j c = omega (arith, c.requires.limits.departures.few)
 
-loop-again : tie.Need-loop-preserved invariant-loop decreases-loop
-loop-again c =
-    let k = c.before.before in
-    let b = k.before.before in (
-      onward (next_one _ _ _ (omega arith)) b.before.before.loop.invariant.0 (rw b.pair-bound.ensures.is at k.take_in.ensures) c.if1.false,
-      omega arith,
-      omega arith,
-    )
+loop-again : tie.Need-loop-j-preserved invariant-loop decreases-loop
+loop-again c = (
+  onward (next_one _ _ _ (omega arith)) c.loop-j.invariant.0 (rw c.pair_bound-limit.ensures.is at c.take_in.ensures) c.if-not-take_in.false-raw,
+  omega arith,
+  omega arith,
+)
 
-same-length-2 : tie.Need-same-length-2 invariant-loop decreases-loop
-same-length-2 c = c.before.loop.invariant.2
+same-length-2 : tie.Need-shape_of-zone invariant-loop decreases-loop
+same-length-2 c = c.loop-j.invariant.2
 
-returns-2 : tie.Need-returns-2 invariant-loop decreases-loop
-returns-2 c = arrived c.before.loop.invariant.0 (from_end _ _ _ (omega arith))
+returns-2 : tie.Need-returns invariant-loop decreases-loop
+returns-2 c = arrived c.loop-j.invariant.0 (from_end _ _ _ (omega arith))
 
 pub common_row_spec : {M : Type 1} → statement M
 common_row_spec =

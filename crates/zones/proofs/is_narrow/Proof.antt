@@ -8,14 +8,12 @@ use mir.ValLaws.{to_z-of_z}
 use Rattle.zones.proofs.is_narrow.Statement.{statement}
 use Rattle.zones.proofs.is_narrow.Tie as tie
 
-returns : tie.Need-returns
-returns c e ne = let s = c.before in absurd (ne (sym (to_z-of_z w32 s.args.raw s.ranges.raw) ∙ ap (to_z w32) c.if1.true))
+returns : tie.Need-returns-then-raw-eq-NONE
+returns c e ne = absurd (ne (sym (to_z-of_z w32 c.args.raw c.ranges.raw) ∙ ap (to_z w32) c.if-raw-eq-NONE.true))
 
-returns-2 : tie.Need-returns-2
+returns-2 : tie.Need-returns
 returns-2 c e ne =
-    let o = c.before in
-    let s = o.before.before in
-    let is = o.of.ensures ∙ to_z-of_z w32 s.args.raw s.ranges.raw in
+    let is = c.of.ensures ∙ to_z-of_z w32 c.args.raw c.ranges.raw in
     ltb-false _ _ (rw is at (sym c.beyond.ensures ∙ not-true c.beyond.result e))
 
 pub is_narrow_spec : {M : Type 1} → statement M

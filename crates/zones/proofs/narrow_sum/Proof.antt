@@ -16,10 +16,10 @@ sums u v h k =
       fits (omega (ints, abs_ud u, abs_ud v, add_ud u v, add_ud (u +ℤ v) (pos o), pos_ud o, odd_one u v)),
     )
 
-add-result : tie.Need-overflow-add-result
+add-result : tie.Need-overflow_add-result
 add-result c = let t = sums c.args.a c.args.b c.requires.0 c.requires.1 in first_fits _ _ c.ranges.a c.ranges.b t.0 t.1
 
-add-result-2 : tie.Need-overflow-add-result-2
+add-result-2 : tie.Need-overflow_add-result-2
 add-result-2 c = let t = sums c.args.a c.args.b c.requires.0 c.requires.1 in second_fits _ _ c.ranges.a c.ranges.b t.0 t.1
 
 returns : tie.Need-returns

@@ -12,35 +12,32 @@ use Rattle.memory.proofs.Fills.{row_start, row_step}
 use Rattle.zones.proofs.open_row.Statement.{statement}
 use Rattle.zones.proofs.open_row.Tie as tie
 
-abbrev invariant-loop : tie.invariant-loop
+abbrev invariant-loop : tie.invariant-loop-j
 invariant-loop zone₀ n i j₀ zone j = RowFilled n (bounds_in zone₀) (bounds_in zone) (diagonal i) i j × (j ≤ suc n) × (length zone ≡ length zone₀)
 
-abbrev decreases-loop : tie.decreases-loop
+abbrev decreases-loop : tie.decreases-loop-j
 decreases-loop zone₀ n i j₀ zone j = suc n - j
 
-loop-holds : tie.Need-loop-init invariant-loop decreases-loop
+loop-holds : tie.Need-loop-j-init invariant-loop decreases-loop
 loop-holds c = (row_start _ _ _ _, omega arith, omega arith)
 
 put-requires : tie.Need-put-requires invariant-loop decreases-loop
-put-requires c κs = (omega arith, c.before.diagonal.ensures.1)
+put-requires c κs = (omega arith, c.diagonal-d.ensures.1)
 
-loop-again : tie.Need-loop-preserved invariant-loop decreases-loop
-loop-again c =
-    let p = c.before in
-    let d = p.before.before in
-    let l = d.before in (
-      rw p.put.ensures (row_step _ l.before.loop.invariant.0 (bounds_size _ ∙ omega arith) (omega arith) (omega arith) d.diagonal.ensures.0),
-      omega arith,
-      omega arith,
-    )
+loop-again : tie.Need-loop-j-preserved invariant-loop decreases-loop
+loop-again c = (
+  rw c.put.ensures (row_step _ c.loop-j.invariant.0 (bounds_size _ ∙ omega arith) (omega arith) (omega arith) c.diagonal-d.ensures.0),
+  omega arith,
+  omega arith,
+)
 
-same_length : tie.Need-same-length invariant-loop decreases-loop
-same_length c = c.before.loop.invariant.2
+same_length : tie.Need-shape_of-zone invariant-loop decreases-loop
+same_length c = c.loop-j.invariant.2
 
 returns : tie.Need-returns invariant-loop decreases-loop
 returns c =
-    let e : c.before.loop.j ≡ suc c.before.before.args.n = omega arith in
-    rw e at c.before.loop.invariant.0
+    let e : c.loop-j.j ≡ suc c.args.n = omega arith in
+    rw e at c.loop-j.invariant.0
 
 pub open_row_spec : {M : Type 1} → statement M
 open_row_spec =

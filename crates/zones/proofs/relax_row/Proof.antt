@@ -13,33 +13,28 @@ use Rattle.zones.proofs.Rows.{row_same}
 use Rattle.zones.proofs.relax_row.Statement.{statement}
 use Rattle.zones.proofs.relax_row.Tie as tie
 
-returns : tie.Need-returns
-returns c = rw c.enum_told.given.1 (row_left _ _ _ _)
+returns : tie.Need-returns-in_default
+returns c = rw c.in_default.is (row_left _ _ _ _)
 
 -- the row can take in the way, which is no blank
-ready : (w : tie.After-way) → let s = w.before.before.args in
-    RelaxReady s.n s.zone.now s.rest.now s.i s.b s.width s.narrow (of_halves w.way.given.0.0.0)
-ready w = rw w.way.given.1 at w.before.before.requires
+ready : (w : tie.In-Upto) → let s = w.args in
+    RelaxReady s.n s.zone.now s.rest.now s.i s.b s.width s.narrow (of_halves w.in-Upto.c.0)
+ready w = rw w.in-Upto.is at w.requires
 
-returns-2 : tie.Need-returns-2
+returns-2 : tie.Need-returns-then-implies
 returns-2 c =
-    let i = c.before in
-    let x = i.before in
-    let w = x.before.before.before in
-    let le = rw x.bound_at.ensures.is at (i.implies.ensures c.if1.true) in
-    rw w.way.given.1 (row_implied (ready w).relaxable le)
+    let le = rw c.bound_at.ensures.is at (c.implies.ensures c.if-implies.true) in
+    rw c.in-Upto.is (row_implied (ready c.before.before.before).relaxable le)
 
-columns-at-requires : tie.Need-columns-at-requires
-columns-at-requires c κs = let r = ready c.before.before.before.before.before in omega (arith, r.relaxable, r.wide)
+columns-at-requires : tie.Need-columns_at-columns-requires
+columns-at-requires c κs = let r = ready c.before.before.before in omega (arith, r.relaxable, r.wide)
 
-relax-entries-requires : tie.Need-relax-entries-requires
+relax-entries-requires : tie.Need-relax_entries-requires
 relax-entries-requires c κs =
-    let a = c.before.before.before in
-    let w = a.before.before.before.before.before.before in
-    let r = ready w in
-    let z = w.way.given.0.0.0 in
+    let r = ready c.before.before.before.before.before.before.before in
+    let z = c.in-Upto.c.0 in
     let told : to_z w64 (of_z w64 z) ≡ z = search rules in
-    let q = a.columns-at.ensures in
+    let q = c.columns_at-columns.ensures in
     record {
       zone = r.relaxable.zone;
       at = r.relaxable.row;
@@ -54,12 +49,10 @@ relax-entries-requires c κs =
           (near, λ j k. r.narrow_row h.0 j (omega (arith, q)));
     }
 
-returns-3 : tie.Need-returns-3
+returns-3 : tie.Need-returns
 returns-3 c =
-    let e = c.before in
-    let w = e.before.before.before.before.before.before.before.before.before.before in
-    let r = ready w in
-    rw w.way.given.1 (row_same e.relax-entries.ensures (λ l h. rw (r.base.is l h)))
+    let r = ready c.before.before.before.before.before.before.before.before.before in
+    rw c.in-Upto.is (row_same c.relax_entries.ensures (λ l h. rw (r.base.is l h)))
 
 pub relax_row_spec : {M : Type 1} → statement M
 relax_row_spec =

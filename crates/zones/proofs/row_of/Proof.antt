@@ -17,43 +17,40 @@ use Rattle.zones.proofs.Rows.{entry_number, row_next}
 use Rattle.zones.proofs.row_of.Statement.{statement}
 use Rattle.zones.proofs.row_of.Tie as tie
 
-abbrev invariant-loop : tie.invariant-loop
+abbrev invariant-loop : tie.invariant-loop-j
 invariant-loop zone n b row₀ j₀ row j =
     (j ≤ suc n) × (length row ≡ room_of_row) × ((l : ℕ) → l < j → bound_in (get_or row l (pos 0)) ≡ entry (suc n) (bounds_in zone) b l)
     × ((l : ℕ) → j ≤ l → l < room_of_row → get_or row l (pos 0) ≡ pos none_in)
 
-abbrev decreases-loop : tie.decreases-loop
+abbrev decreases-loop : tie.decreases-loop-j
 decreases-loop zone n b row₀ j₀ row j = suc n - j
 
-loop-holds : tie.Need-loop-init invariant-loop decreases-loop
+loop-holds : tie.Need-loop-j-init invariant-loop decreases-loop
 loop-holds c = (omega arith, refl, λ l h. absurd (omega arith), λ l h k. get_or-replicate room_of_row l (pos none_in) (pos 0) k)
 
-here : (c : tie.After-place invariant-loop decreases-loop) →
-    let l = c.before.before in
-    let s = l.before.args in
-    PlaceOf (suc s.n) s.b l.loop.j c.place.result
-here c = rw add-one at c.place.ensures
+here : (c : tie.After-place-k invariant-loop decreases-loop) →
+    let s = c.args in
+    PlaceOf (suc s.n) s.b c.loop-j.j c.place-k.result
+here c = rw add-one at c.place-k.ensures
 
-below : (c : tie.After-place invariant-loop decreases-loop) → c.place.result < length c.before.before.before.args.zone.now
-below c = let s = c.before.before.before in omega (arith, (here c).below (suc s.args.n) s.requires.1)
+below : (c : tie.After-place-k invariant-loop decreases-loop) → c.place-k.result < length c.args.zone.now
+below c = omega (arith, (here c).below (suc c.args.n) c.requires.1)
 
-loop-again : tie.Need-loop-preserved invariant-loop decreases-loop
+loop-again : tie.Need-loop-j-preserved invariant-loop decreases-loop
 loop-again c =
-    let p = c.before in
-    let l = p.before.before in
-    let s = l.before.args in
+    let s = c.args in
     let f = entry (suc s.n) (bounds_in s.zone.now) s.b in
-    let e = ap bound_in (to_z-of_z w32 _ (record { sfits = c.row.given })) ∙ sym (entry_number _ _ _ _ _ (here p).is (below p)) in (
+    let e = ap bound_in (to_z-of_z w32 _ (record { sfits = c.row-1.given })) ∙ sym (entry_number _ _ _ _ _ (here c.before).is (below c.before)) in (
       omega arith,
-      simp length-set l.loop.invariant.1,
-      row_next f l.loop.row l.loop.j _ (omega arith) l.loop.invariant.2 e,
-      λ k h g. get_or-set_other l.loop.row l.loop.j k _ _ (λ q. omega arith) ∙ l.loop.invariant.3 k (omega arith) g,
+      simp length-set c.loop-j.invariant.1,
+      row_next f c.loop-j.row c.loop-j.j _ (omega arith) c.loop-j.invariant.2 e,
+      λ k h g. get_or-set_other c.loop-j.row c.loop-j.j k _ _ (λ q. omega arith) ∙ c.loop-j.invariant.3 k (omega arith) g,
     )
 
 returns : tie.Need-returns invariant-loop decreases-loop
 unfolding bound_in same_z
 returns c =
-    let l = c.before.loop in
+    let l = c.loop-j in
     record { size = l.invariant.1; is = λ j h. l.invariant.2 j (omega arith); blank = λ j h g. rw (l.invariant.3 j (omega arith) g) }
 
 pub row_of_spec : {M : Type 1} → statement M
@@ -65,7 +62,7 @@ row_of_spec =
     loop-holds
     (λ c. omega arith)
     (λ c κs. omega arith)
-    (λ c. omega (arith, c.place.ensures.few))
+    (λ c. omega (arith, c.place-k.ensures.few))
     below
     (λ c. omega arith)
     (λ c. omega arith)

@@ -9,34 +9,31 @@ use Rattle.zones.proofs.Standing.{zone_of_lem}
 use Rattle.zones.proofs.take_in.Statement.{statement}
 use Rattle.zones.proofs.take_in.Tie as tie
 
-returns : tie.Need-returns
+returns : tie.Need-returns-in_default
 returns c =
-    let p = rw c.enum_told.given.1 at c.before.before.requires in
-    rw c.enum_told.given.1 (is_kept (all_left p.taking.closed (inside p.taking) any))
+    let p = rw c.in_default.is at c.requires in
+    rw c.in_default.is (is_kept (all_left p.taking.closed (inside p.taking) any))
 
 -- the constraint can be taken in
-taking : (c : tie.After-known-told) → let s = c.before.before.before in let l = c.before.limit.given.0 in
-    TakingOne s.args.n s.args.zone.now s.args.a s.args.b (of_halves l.0.0)
-taking c = rw c.before.limit.given.1 at c.before.before.before.requires
+taking : (c : tie.In-Upto) → let l = c.in-Upto.c.0 in
+    TakingOne c.args.n c.args.zone.now c.args.a c.args.b (of_halves l)
+taking c = rw c.in-Upto.is at c.requires
 
-bound-at-requires : tie.Need-bound-at-requires
+bound-at-requires : tie.Need-bound_at-requires
 bound-at-requires c κs =
-    let t = (taking c.before).taking in
+    let t = (taking c).taking in
     record { zone = zone_of_lem _ t; row = (inside t).row_fits; col = (inside t).col_fits }
 
-returns-2 : tie.Need-returns-2
+returns-2 : tie.Need-returns-then-implies
 returns-2 c =
-    let i = c.before in
-    let x = i.before in
-    let k = x.before.before in
-    let t = (taking k).taking in
-    rw k.before.limit.given.1 (is_kept (all_left t.closed (inside t) (rw x.bound_at.ensures.is at (i.implies.ensures c.if1.true))))
+    let t = (taking c.before.before.before).taking in
+    rw c.in-Upto.is (is_kept (all_left t.closed (inside t) (rw c.bound_at.ensures.is at (c.implies.ensures c.if-implies.true))))
 
 constrain-requires : tie.Need-constrain-requires
-constrain-requires c κs = taking c.before.before.before.before.before
+constrain-requires c κs = taking c.before.before.before.before
 
-returns-3 : tie.Need-returns-3
-returns-3 c = rw c.before.before.before.before.before.before.before.before.limit.given.1 c.before.constrain.ensures
+returns-3 : tie.Need-returns
+returns-3 c = rw c.in-Upto.is c.constrain.ensures
 
 pub take_in_spec : {M : Type 1} → statement M
 take_in_spec =

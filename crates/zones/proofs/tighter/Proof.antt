@@ -10,36 +10,33 @@ use Rattle.zones.proofs.Step.{widened, read_wide, new_tighter, new_fits, old_tig
 use Rattle.zones.proofs.tighter.Statement.{statement}
 use Rattle.zones.proofs.tighter.Tie as tie
 
-cast-if1 : tie.Need-overflow-cast-if1
+cast-if1 : tie.Need-overflow_cast-old
 cast-if1 c = rw (to_z-of_z w32 c.args.old c.ranges.old) (widened c.ranges.old)
 
 -- the numbers are read back from their bits
-told : (c : tie.After-struct-told) → let z = c.before.before.args.new.0 in to_z w64 (of_z w64 z) ≡ z
+told : (c : tie.After-struct_told-1) → let z = c.args.new.0 in to_z w64 (of_z w64 z) ≡ z
 told c = search rules
 
-told_old : (c : tie.After-struct-told) → let z = c.before.before.args.old in to_z w64 (of_z w64 (to_z w32 (of_z w32 z))) ≡ z
-told_old c = let s = c.before.before in read_wide s.args.old s.ranges.old
+told_old : (c : tie.After-struct_told-1) → let z = c.args.old in to_z w64 (of_z w64 (to_z w32 (of_z w32 z))) ≡ z
+told_old c = read_wide c.args.old c.ranges.old
 
-less : (c : tie.Then1) → let s = c.before.before.before.args in up s.new.0 + dn s.old < up s.old + dn s.new.0
-less c = lt_z_true _ _ (rw (told c.before, told_old c.before) at c.if1.true)
+less : (c : tie.Then-new-old) → let s = c.args in up s.new.0 + dn s.old < up s.old + dn s.new.0
+less c = lt_z_true _ _ (rw (told c.before, told_old c.before) at c.if-new-old.true)
 
-fits_new : (c : tie.Then1) → SFits w32 c.before.before.before.args.new.0
-fits_new c = let s = c.before.before.before in new_fits s.args.old s.args.new.0 s.ranges.old (less c) s.requires
+fits_new : (c : tie.Then-new-old) → SFits w32 c.args.new.0
+fits_new c = new_fits c.args.old c.args.new.0 c.ranges.old (less c) c.requires
 
-cast-result : tie.Need-overflow-cast-result
-cast-result c = let t = c.before.before in rw (told t.before) (fits_new t)
+cast-result : tie.Need-overflow_cast-result
+cast-result c = rw (told c.before.before.before) (fits_new c.before.before)
 
-returns : tie.Need-returns
+returns : tie.Need-returns-then-new-old
 returns c =
-    let t = c.before.before in
-    let s = t.before.before.before in
-    rw (told t.before, to_z-of_z w32 s.args.new.0 (fits_new t)) (new_tighter s.args.old s.args.new.0 s.ranges.old (less t))
+    rw (told c.before.before.before, to_z-of_z w32 c.args.new.0 (fits_new c.before.before)) (new_tighter c.args.old c.args.new.0 c.ranges.old (less c.before.before))
 
-returns-2 : tie.Need-returns-2
+returns-2 : tie.Need-returns
 returns-2 c =
-    let s = c.before.before.before in
-    let least = lt_z_false _ _ (rw (told c.before, told_old c.before) at c.if1.false) in
-    rw (to_z-of_z w32 s.args.old s.ranges.old) (old_tighter s.args.old s.args.new.0 s.ranges.old least s.requires)
+    let least = lt_z_false _ _ (rw (told c.before, told_old c.before) at c.if-new-old.false) in
+    rw (to_z-of_z w32 c.args.old c.ranges.old) (old_tighter c.args.old c.args.new.0 c.ranges.old least c.requires)
 
 pub tighter_spec : {M : Type 1} → statement M
 tighter_spec = tie.close (tie.spec cast-if1 cast-result returns returns-2)

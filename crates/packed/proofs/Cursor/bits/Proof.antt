@@ -11,65 +11,65 @@ use Rattle.packed.proofs.Laws.{num_next, num_suc}
 use Rattle.packed.proofs.Cursor.bits.Statement.{statement}
 use Rattle.packed.proofs.Cursor.bits.Tie as tie
 
-abbrev invariant-loop : tie.invariant-loop
+abbrev invariant-loop : tie.invariant-loop-i
 invariant-loop s width at end v₀ i₀ v i = (i ≤ width) × (v ≡ num_at s at i)
 
-abbrev decreases-loop : tie.decreases-loop
+abbrev decreases-loop : tie.decreases-loop-i
 decreases-loop s width at end v₀ i₀ v i = width - i
 
-add-end : tie.Need-overflow-add-end invariant-loop decreases-loop
+add-end : tie.Need-overflow_add-end invariant-loop decreases-loop
 add-end c = search rules
 
-add-if1 : tie.Need-overflow-add-if1 invariant-loop decreases-loop
+add-if1 : tie.Need-overflow_add-end-2 invariant-loop decreases-loop
 add-if1 c = search rules
 
-returns : tie.Need-returns invariant-loop decreases-loop
+returns : tie.Need-returns-then-s-end invariant-loop decreases-loop
 unfolding bits
 returns c first =
-    let a = c.before.before.args in
+    let a = c.args in
     let h : 8 * length a.s.now < a.self.at + a.width = omega arith in
     simp (lt-leb _ _ h)
 
-loop-holds : tie.Need-loop-init invariant-loop decreases-loop
+loop-holds : tie.Need-loop-i-init invariant-loop decreases-loop
 unfolding num_of
 loop-holds c = (search rules, refl)
 
-mul-v : tie.Need-overflow-mul-v invariant-loop decreases-loop
+mul-v : tie.Need-overflow_mul-v invariant-loop decreases-loop
 mul-v c =
-    let a = c.before.before.before.before.args in
-    record { fits = omega (arith, num_next a.s.now a.self.at c.before.loop.i (omega arith)) }
+    let a = c.args in
+    record { fits = omega (arith, num_next a.s.now a.self.at c.loop-i.i (omega arith)) }
 
-add-bit-at : tie.Need-overflow-add-bit-at invariant-loop decreases-loop
+add-bit-at : tie.Need-overflow_add-at invariant-loop decreases-loop
 add-bit-at c = search rules
 
-bit-at-requires : tie.Need-bit-at-requires invariant-loop decreases-loop
+bit-at-requires : tie.Need-bit_at-requires invariant-loop decreases-loop
 bit-at-requires c κs = search rules
 
-add-v : tie.Need-overflow-add-v invariant-loop decreases-loop
+add-v : tie.Need-overflow_add-v invariant-loop decreases-loop
 add-v c =
-    let a = c.before.before.before.before.before.args in
-    let i = c.before.before.loop.i in
+    let a = c.args in
+    let i = c.loop-i.i in
     record { fits = omega (arith, num_next a.s.now a.self.at i (omega arith), bit_small a.s.now (a.self.at + i)) }
 
-add-i : tie.Need-overflow-add-i invariant-loop decreases-loop
+add-i : tie.Need-overflow_step-i invariant-loop decreases-loop
 add-i c = search rules
 
-loop-less : tie.Need-loop-smaller invariant-loop decreases-loop
+loop-less : tie.Need-loop-i-smaller invariant-loop decreases-loop
 loop-less c = search rules
 
-loop-again : tie.Need-loop-preserved invariant-loop decreases-loop
+loop-again : tie.Need-loop-i-preserved invariant-loop decreases-loop
 loop-again c =
-    let a = c.before.before.before.before.before.args in
-    (omega arith, omega (arith, num_suc a.s.now a.self.at c.before.before.loop.i))
+    let a = c.args in
+    (omega arith, omega (arith, num_suc a.s.now a.self.at c.loop-i.i))
 
-returns-2 : tie.Need-returns-2 invariant-loop decreases-loop
+returns-2 : tie.Need-returns invariant-loop decreases-loop
 unfolding bits
 returns-2 c first =
-    let a = c.before.before.before.before.args in
+    let a = c.args in
     let h : a.self.at + a.width ≤ 8 * length a.s.now = omega arith in
-    let e : c.before.loop.i ≡ a.width = omega arith in
+    let e : c.loop-i.i ≡ a.width = omega arith in
     simp (le-leb _ _ h)
-    (ap (λ (v : ℕ). got v (a.self.at + a.width)) (c.before.loop.invariant.1 ∙ ap (num_at a.s.now a.self.at) e))
+    (ap (λ (v : ℕ). got v (a.self.at + a.width)) (c.loop-i.invariant.1 ∙ ap (num_at a.s.now a.self.at) e))
 
 pub bits_spec : {M : Type 1} → statement M
 bits_spec =

@@ -18,12 +18,11 @@ use Rattle.packed.proofs.Laws.{answered, entry_is, number_gives}
 use Rattle.packed.proofs.Cursor.bound.Statement.{statement}
 use Rattle.packed.proofs.Cursor.bound.Tie as tie
 
-number_read : (c : tie.After-raw) →
-    let a = c.before.before.before.before.before.args in
-    number_of (a.form.mark + bound_width) a.s.now a.self.at ≡ got (some c.raw.given.0.0) c.raw.given.0.1.0.at
+number_read : (c : tie.In-Present) →
+    let a = c.args in
+    number_of (a.form.mark + bound_width) a.s.now a.self.at ≡ got (some c.in-Present.raw) c.in-Present.next.at
 number_read c =
-    let n = c.before.before in
-    answered (read_number n.before.before.before.args.self.at) n.number.ensures c.raw.given.1
+    answered (read_number c.args.self.at) c.number.ensures c.in-Present.is
 
 -- a mark only where the form has a place for it
 no_mark : (f : Form) (raw : ℕ) → raw < 2 ^ (f.mark + bound_width) → (markless f && leb (2 ^ bound_width) raw) ≡ false
@@ -33,35 +32,30 @@ no_mark f raw h = go (markless f) refl
     go false e = refl
     go true e = lt-leb (2 ^ bound_width) raw (rw (eqb-true f.mark 0 e) at h)
 
-tested : (c : tie.After-beyond) → beyond bound_limit (stated (limit_of c.before.before.before.raw.given.0.0)) ≡ c.beyond.result
+tested : (c : tie.After-beyond) → beyond bound_limit (stated (limit_of c.in-Present.raw)) ≡ c.beyond.result
 unfolding beyond
-tested c = sym (c.beyond.ensures ∙ ap (λ (z : ℤ). ltb bound_limit (nat_abs z)) c.before.in-seconds.ensures)
+tested c = sym (c.beyond.ensures ∙ ap (λ (z : ℤ). ltb bound_limit (nat_abs z)) c.in_seconds-value.ensures)
 
-returns : tie.Need-returns
+returns : tie.Need-returns-then-beyond
 unfolding bound_fault_in bound_fault over
 returns c =
-    let r = c.before.before.before.before in
-    let f = r.before.before.before.before.before.args.form in
-    sym (entry_is (bound_kind f) _ _ (number_read r) ∙ rw (tested c.before ∙ c.if1.true))
+    let f = c.args.form in
+    sym (entry_is (bound_kind f) _ _ (number_read c.before.before.before) ∙ rw (tested c.before ∙ c.if-beyond.true))
 
-returns-2 : tie.Need-returns-2
+returns-2 : tie.Need-returns-in-Ends
 returns-2 c =
-    let n = c.before.before in
-    sym (entry_is (bound_kind _) _ _ (answered (read_number n.before.before.before.args.self.at) n.number.ensures c.enum_told.given.1))
+    sym (entry_is (bound_kind _) _ _ (answered (read_number c.args.self.at) c.number.ensures c.in-Ends.is))
 
-returns-3 : tie.Need-returns-3
+returns-3 : tie.Need-returns-in-Absent
 returns-3 c =
-    let n = c.before.before.before in
-    sym (entry_is (bound_kind _) _ _ (answered (read_number n.before.before.before.args.self.at) n.number.ensures c.before.next.given.1))
+    sym (entry_is (bound_kind _) _ _ (answered (read_number c.args.self.at) c.number.ensures c.in-Absent.is))
 
-returns-4 : tie.Need-returns-4
+returns-4 : tie.Need-returns-else-beyond
 unfolding bound_fault_in bound_fault over
 returns-4 c =
-    let v = c.before.before in
-    let r = v.before.before in
-    let f = r.before.before.before.before.before.args.form in
-    let plain = no_mark f _ (given (number_gives _ _ _) (number_read r) _ refl) in
-    sym (entry_is (bound_kind f) _ _ (number_read r) ∙ rw (tested c.before ∙ c.if1.false, plain, ← v.in-seconds.ensures))
+    let f = c.args.form in
+    let plain = no_mark f _ (given (number_gives _ _ _) (number_read c.before.before.before) _ refl) in
+    sym (entry_is (bound_kind f) _ _ (number_read c.before.before.before) ∙ rw (tested c.before ∙ c.if-beyond.false, plain, ← c.in_seconds-value.ensures))
 
 pub bound_spec : {M : Type 1} → statement M
 bound_spec =

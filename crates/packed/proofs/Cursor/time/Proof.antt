@@ -15,42 +15,36 @@ use Rattle.packed.proofs.Laws.{answered, entry_is, number_gives}
 use Rattle.packed.proofs.Cursor.time.Statement.{statement}
 use Rattle.packed.proofs.Cursor.time.Tie as tie
 
-number_read : (c : tie.After-raw) →
-    let a = c.before.before.before.before.args in
-    number_of time_width a.s.now a.self.at ≡ got (some c.raw.given.0.0) c.raw.given.0.1.0.at
+number_read : (c : tie.In-Present) →
+    let a = c.args in
+    number_of time_width a.s.now a.self.at ≡ got (some c.in-Present.raw) c.in-Present.next.at
 number_read c =
-    let n = c.before.before in
-    answered (read_number n.before.before.args.self.at) n.number.ensures c.raw.given.1
+    answered (read_number c.args.self.at) c.number.ensures c.in-Present.is
 
-tested : (c : tie.After-beyond) → beyond time_limit (present (signed (2 ^ (time_width - 1)) c.before.before.before.raw.given.0.0)) ≡ c.beyond.result
+tested : (c : tie.After-beyond) → beyond time_limit (present (signed (2 ^ (time_width - 1)) c.in-Present.raw)) ≡ c.beyond.result
 unfolding beyond
-tested c = sym (c.beyond.ensures ∙ ap (λ (z : ℤ). ltb time_limit (nat_abs z)) c.before.in-seconds.ensures)
+tested c = sym (c.beyond.ensures ∙ ap (λ (z : ℤ). ltb time_limit (nat_abs z)) c.in_seconds-value.ensures)
 
-in-seconds-requires : tie.Need-in-seconds-requires
-in-seconds-requires c κs = omega (arith, given (number_gives time_width _ _) (number_read c.before) _ refl)
+in-seconds-requires : tie.Need-in_seconds-value-requires
+in-seconds-requires c κs = omega (arith, given (number_gives time_width _ _) (number_read c) _ refl)
 
-returns : tie.Need-returns
+returns : tie.Need-returns-then-beyond
 unfolding over
 returns c =
-    let r = c.before.before.before.before in
-    sym (entry_is time_kind _ _ (number_read r) ∙ rw (tested c.before ∙ c.if1.true))
+    sym (entry_is time_kind _ _ (number_read c.before.before.before) ∙ rw (tested c.before ∙ c.if-beyond.true))
 
-returns-2 : tie.Need-returns-2
+returns-2 : tie.Need-returns-in-Ends
 returns-2 c =
-    let n = c.before.before in
-    sym (entry_is time_kind _ _ (answered (read_number n.before.before.args.self.at) n.number.ensures c.enum_told.given.1))
+    sym (entry_is time_kind _ _ (answered (read_number c.args.self.at) c.number.ensures c.in-Ends.is))
 
-returns-3 : tie.Need-returns-3
+returns-3 : tie.Need-returns-in-Absent
 returns-3 c =
-    let n = c.before.before.before in
-    sym (entry_is time_kind _ _ (answered (read_number n.before.before.args.self.at) n.number.ensures c.before.next.given.1))
+    sym (entry_is time_kind _ _ (answered (read_number c.args.self.at) c.number.ensures c.in-Absent.is))
 
-returns-4 : tie.Need-returns-4
+returns-4 : tie.Need-returns-else-beyond
 unfolding over
 returns-4 c =
-    let v = c.before.before in
-    let r = v.before.before in
-    sym (entry_is time_kind _ _ (number_read r) ∙ rw (tested c.before ∙ c.if1.false, ← v.in-seconds.ensures))
+    sym (entry_is time_kind _ _ (number_read c.before.before.before) ∙ rw (tested c.before ∙ c.if-beyond.false, ← c.in_seconds-value.ensures))
 
 pub time_spec : {M : Type 1} → statement M
 time_spec =
