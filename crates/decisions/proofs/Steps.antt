@@ -45,6 +45,7 @@ first_of_leaves c f h (s ∷ ss) (suc t) l =
     go (missed u) (missed_all k) rest =
         let e : suc (length ss) * suc c ≡ suc c + length ss * suc c = omega arith in
         leaves_mono {t = suc t} {v = u} {c = suc (length ss) * suc c} {e = length ss * suc c} (omega arith) (rest u (omega arith))
+    go spent h rest = elim h [ ]
 
 columns_few : (n : ℕ) (a : List Time) (i r j : ℕ) → length (columns n a i r j) ≤ r
 unfolding columns
@@ -97,6 +98,7 @@ module _ (w : Network) (may : Bool) (z d : Matrix) (horizon : ℕ) where
       go (missed u) (missed_all l) more =
           let e : suc r * each ≡ each + r * each = omega arith in
           on (may && again c.table (product w.n w.times b)) (rest u) (more u (omega arith))
+      go spent h more = elim h [ ]
 
 pub enough_steps : (w : Network) (horizon t : ℕ) → horizon * steps_for w.n w.n ≤ t → Enough (decide w horizon t)
 unfolding decide decide_zones
