@@ -14,31 +14,28 @@ use Rattle.ahead.proofs.Tabled.{asks_none, asks_some, taken_off}
 use Rattle.ahead.proofs.asked.Statement.{statement}
 use Rattle.ahead.proofs.asked.Tie as tie
 
-returns : tie.Need-returns
-returns c = record { is = asks_none c.before.before.row_time_lem.ensures _ (not-true _ c.if1.true); small = free }
+returns : tie.Need-returns-then-not-time
+returns c = record { is = asks_none c.row_time-time.ensures _ (not-true _ c.if-not-time.true); small = free }
 
-off : (c : tie.After-bound-at) → nat_abs (pos 0 -ℤ c.before.before.before.row_time_lem.result.value.0) ≤ InMemory
-off c = taken_off c.before.before.before.row_time_lem.ensures
+off : (c : tie.After-bound_at-near) → nat_abs (pos 0 -ℤ c.row_time-time.result.value.0) ≤ InMemory
+off c = taken_off c.row_time-time.ensures
 
 difference-requires : tie.Need-difference-requires
-difference-requires c κs = let h = off c in omega arith
+difference-requires c κs = let h = off c.before in omega arith
 
-near : (c : tie.After-difference) → Small NeedMost (plus (as_bound c.before.bound_at.result) (as_bound c.difference.result))
-near c = rw c.difference.ensures (small_sum c.before.bound_at.ensures.small (sized (off c.before)))
+near : (c : tie.After-difference) → Small NeedMost (plus (as_bound c.bound_at-near.result) (as_bound c.difference.result))
+near c = rw c.difference.ensures (small_sum c.bound_at-near.ensures.small (sized (off c.before.before)))
 
 plus-requires : tie.Need-plus-requires
 plus-requires c κs = small_mono (omega arith) (near c)
 
-returns-2 : tie.Need-returns-2
+returns-2 : tie.Need-returns
 returns-2 c =
-    let d = c.before in
-    let b = d.before in
-    let t = b.before.before.before in
     record {
       is =
-          c.plus.ensures ∙ ap₂ plus b.bound_at.ensures.is d.difference.ensures
-          ∙ asks_some t.row_time_lem.ensures _ (not-false _ b.before.if1.false);
-      small = rw c.plus.ensures (near d);
+          c.plus.ensures ∙ ap₂ plus c.bound_at-near.ensures.is c.difference.ensures
+          ∙ asks_some c.row_time-time.ensures _ (not-false _ c.if-not-time.false);
+      small = rw c.plus.ensures (near c.before);
     }
 
 pub asked_spec : {M : Type 1} → statement M

@@ -5,15 +5,14 @@ use Rattle.ahead.proofs.Tabled.{no_column, held_column}
 use Rattle.ahead.proofs.column_out.Statement.{statement}
 use Rattle.ahead.proofs.column_out.Tie as tie
 
-returns : tie.Need-returns
-returns c t held = absurd (no_column c.before.before.time_at.ensures (not-true _ c.if1.true) held)
+returns : tie.Need-returns-then-not-time_at
+returns c t held = absurd (no_column c.time_at.ensures (not-true _ c.if-not-time_at.true) held)
 
 unfit-requires : tie.Need-unfit-requires
 unfit-requires c κs =
-    let t = c.before.before in
-    let p = t.before.requires in
+    let p = c.requires in
     let at = p.1 in
-    let held = held_column t.time_at.ensures (not-false _ c.if1.false) at.col_from at.col_to in
+    let held = held_column c.time_at.ensures (not-false _ c.if-not-time_at.false) at.col_from at.col_to in
     record { looking = p.0; adds = record { table = at.table; row = at.row_to; column = chosen_at at.row_from held }; column = at.col_to }
 
 pub column_out_spec : {M : Type 1} → statement M

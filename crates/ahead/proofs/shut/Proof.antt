@@ -7,7 +7,7 @@ pub shut_spec : {M : Type 1} → statement M
 shut_spec =
     tie.close
     (tie.spec
-    (λ c κs. c.before.requires)
-    (λ c t. inl (c.before.known-unfit.ensures c.if1.true))
-    (λ c κs. let p = c.before.before.before.requires in (p.0, p.1.from_one))
-    (λ c t. inr (c.later-out.ensures t)))
+    (λ c κs. c.requires)
+    (λ c t. inl (c.known_unfit.ensures c.if-known_unfit.true))
+    (λ c κs. let p = c.requires in (p.0, p.1.from_one))
+    (λ c t. inr (c.later_out.ensures t)))

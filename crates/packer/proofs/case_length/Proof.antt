@@ -17,20 +17,19 @@ use Rattle.packer.proofs.case_length.Tie as tie
 fits : (c : tie.Start) → let n = c.args.n in (n * n ≤ most_bounds) × (n * (n + 1) ≤ most_bounds)
 fits c = (omega (arith, table_fits c.requires.0), pattern_size_lem c.requires.0)
 
-widths : (c : tie.After-bound-widths) → WidthsIn c.bound-widths.result
-widths c = rw c.bound-widths.ensures (omega arith)
+widths : (c : tie.After-bound_widths-widths) → WidthsIn c.bound_widths-widths.result
+widths c = rw c.bound_widths-widths.ensures (omega arith)
 
 returns : tie.Need-returns
 returns c h =
-    let b = c.before.before.before.before in
-    let a = b.before.args in
-    let w = b.bound-widths.ensures in
-    let start = rw w at c.before.entries-length2.ensures.0 in
-    let target = rw w at c.entries-length3.ensures.0 in
+    let a = c.args in
+    let w = c.bound_widths-widths.ensures in
+    let start = rw w at c.entries_length-2.ensures.0 in
+    let target = rw w at c.entries_length-3.ensures.0 in
     omega (
       arith,
       simp (length-append, length_field, ← (add-one a.n)) at (form_length a.form a.n h a.times a.start a.target),
-      c.before.before.entries-length.ensures.0,
+      c.entries_length.ensures.0,
     )
 
 pub case_length_spec : {M : Type 1} → statement M

@@ -29,53 +29,41 @@ long c = let a = c.args in form_length a.form a.n a.horizon.0 a.times a.start a.
 room : (c : tie.Start) → CanInk (length (bits c)) first_pen c.args.out.now
 room c = can_first (bits c) c.args.out.now c.requires.1
 
-after_head : (c : tie.After-head) →
-    let s = c.before.before.before in
-    CanInk (length (times_bits s.args.n s.args.times) + length (boundsBits s)) c.head.result c.head.new.1.0
-after_head c = let s = c.before.before.before in omega (arith, long s, room s)
+after_head : (c : tie.After-head-after_head) →
+    CanInk (length (times_bits c.args.n c.args.times) + length (boundsBits c.before.before.before)) c.head-after_head.result c.head-after_head.new.out
+after_head c = omega (arith, long c.before.before.before, room c.before.before.before)
 
-after_entries : (c : tie.After-entries) →
-    CanInk (length (boundsBits c.before.before.before.before.before.before.before)) c.entries.result c.entries.new.1.0
+after_entries : (c : tie.After-entries-after_times) →
+    CanInk (length (boundsBits c.before.before.before.before.before.before.before)) c.entries-after_times.result c.entries-after_times.new.out
 after_entries c = omega (arith, after_head c.before.before.before.before)
 
 -- all parts written
-written : (c : tie.After-patterns) →
-    let s = c.before.before.before.before.before.before.before.before.before.before.before in
-    Inks (bits s) first_pen s.args.out.now c.patterns.result c.patterns.new.1.0
+written : (c : tie.After-patterns-after_patterns) →
+    Inks (bits c.before.before.before.before.before.before.before.before.before.before.before) first_pen c.args.out.now c.patterns-after_patterns.result c.patterns-after_patterns.new.out
 unfolding form_bits
 written c =
-    let e = c.before.before.before.before in
-    let h = e.before.before.before.before in
-    rw (← (add-one h.before.before.before.args.n)) (inks_then (inks_then h.head.ensures e.entries.ensures) c.patterns.ensures)
+    rw (← (add-one c.args.n)) (inks_then (inks_then c.head-after_head.ensures c.entries-after_times.ensures) c.patterns-after_patterns.ensures)
 
-head-requires : tie.Need-head-requires
+head-requires : tie.Need-head-after_head-requires
 head-requires c κs =
-    let s = c.before.before in
-    (omega (arith, long s, room s), s.requires.0.numbers_in)
+    (omega (arith, long c.before.before, room c.before.before), c.requires.0.numbers_in)
 
-entries-requires : tie.Need-entries-requires
+entries-requires : tie.Need-entries-after_times-requires
 entries-requires c κs =
-    let h = c.before.before.before in
-    (omega (arith, after_head h), omega arith, h.before.before.before.requires.0.times_in_lem)
+    (omega (arith, after_head c.before.before.before), omega arith, c.requires.0.times_in_lem)
 
-patterns-requires : tie.Need-patterns-requires
+patterns-requires : tie.Need-patterns-after_patterns-requires
 patterns-requires c κs =
-    let e = c.before.before.before in
-    let s = e.before.before.before.before.before.before.before in
-    rw (add-one s.args.n) (after_entries e, s.requires.0.patterns_in)
+    rw (add-one c.args.n) (after_entries c.before.before.before, c.requires.0.patterns_in)
 
 fill-requires : tie.Need-fill-requires
 fill-requires c κs =
-    let p = c.before.before.before in
-    let e = p.before.before.before.before in
-    let n = e.before.before.before.before.before.before.before.args.n in
-    omega (arith, after_entries e, rw (add-one n) at p.patterns.ensures)
+    let n = c.args.n in
+    omega (arith, after_entries c.before.before.before.before.before.before.before, rw (add-one n) at c.patterns-after_patterns.ensures)
 
 returns : tie.Need-returns
 returns c =
-    let f = c.before.before in
-    let p = f.before.before.before.before in
-    f.fill.ensures _ _ ((written p).0.inked _ [] (inked_first _))
+    c.fill.ensures _ _ ((written c.before.before.before.before.before.before).0.inked _ [] (inked_first _))
 
 pub put_case_spec : {M : Type 1} → statement M
 put_case_spec =

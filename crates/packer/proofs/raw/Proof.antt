@@ -42,38 +42,38 @@ opposite z l h =
     }
 
 -- a number that fits, and so is read back from its bits
-fitting : (c : tie.After-struct-told) → SFits w64 c.before.args.value.0
+fitting : (c : tie.After-struct_told-1) → SFits w64 c.args.value.0
 fitting c = search rules
 
-below : (c : tie.Then1) → Opposite c.before.before.args.value.0
-below c = opposite _ (omega arith) (simp (to_z-of_z, fitting c.before) at c.if1.true)
+below : (c : tie.Then-seconds-lt0) → Opposite c.args.value.0
+below c = opposite _ (omega arith) (simp (to_z-of_z, fitting c.before) at c.if-seconds-lt0.true)
 
-mul-result : tie.Need-overflow-mul-result
+mul-result : tie.Need-overflow_mul-result
 mul-result c = search rules
 
-sub-result : tie.Need-overflow-sub-result
+sub-result : tie.Need-overflow_sub-result
 sub-result c = simp (to_z-of_z, fitting c.before) (below c).fitting
 
-cast-result : tie.Need-overflow-cast-result
+cast-result : tie.Need-overflow_cast-result
 cast-result c = simp (to_z-of_z, fitting c.before, (below c).fitting) (yes_non_neg (below c).positive, omega (arith, below c))
 
-sub-result-2 : tie.Need-overflow-sub-result-2
+sub-result-2 : tie.Need-overflow_sub-result-then-seconds-lt0
 sub-result-2 c = simp (to_z-of_z, fitting c.before, (below c).fitting) (omega (arith, below c))
 
-cast-result-2 : tie.Need-overflow-cast-result-2
+cast-result-2 : tie.Need-overflow_cast-result-else-seconds-lt0
 cast-result-2 c =
     let f = fitting c.before in
-    let z = c.before.before.args.value.0 in
-    let h : lt_z z (pos 0) ≡ false = simp (to_z-of_z, f) at c.if1.false in
+    let z = c.args.value.0 in
+    let h : lt_z z (pos 0) ≡ false = simp (to_z-of_z, f) at c.if-seconds-lt0.false in
     simp (to_z-of_z, f) (yes_non_neg {z = z} (omega (ints, pos_ud 0)), omega arith)
 
-returns : tie.Need-returns
+returns : tie.Need-returns-then-seconds-lt0
 returns c =
     let f = fitting c.before in
-    simp (to_z-of_z, f, (below c).fitting, (below c).sized) (sym (raw_below _ _ (simp (to_z-of_z, f) at c.if1.true)))
+    simp (to_z-of_z, f, (below c).fitting, (below c).sized) (sym (raw_below _ _ (simp (to_z-of_z, f) at c.if-seconds-lt0.true)))
 
-returns-2 : tie.Need-returns-2
-returns-2 c = let f = fitting c.before in simp (to_z-of_z, f) (sym (raw_above _ _ (simp (to_z-of_z, f) at c.if1.false)))
+returns-2 : tie.Need-returns-else-seconds-lt0
+returns-2 c = let f = fitting c.before in simp (to_z-of_z, f) (sym (raw_above _ _ (simp (to_z-of_z, f) at c.if-seconds-lt0.false)))
 
 pub raw_spec : {M : Type 1} → statement M
 raw_spec =

@@ -14,16 +14,16 @@ use Rattle.model.proofs.Stored.{padded_set}
 use Rattle.packer.proofs.unmarked.Statement.{statement}
 use Rattle.packer.proofs.unmarked.Tie as tie
 
-abbrev invariant-loop : tie.invariant-loop
+abbrev invariant-loop : tie.invariant-loop-i
 invariant-loop times limits₀ i₀ limits i = (i ≤ most_bounds) × (limits ≡ padded (unmarked nothing) most_bounds (map unmarked (take i times)))
 
-abbrev decreases-loop : tie.decreases-loop
+abbrev decreases-loop : tie.decreases-loop-i
 decreases-loop times limits₀ i₀ limits i = most_bounds - i
 
-loop-again : tie.Need-loop-preserved invariant-loop decreases-loop
+loop-again : tie.Need-loop-i-preserved invariant-loop decreases-loop
 loop-again c =
-    let l = c.before.before.before.loop in
-    let xs = c.before.before.before.before.args.t1 in
+    let l = c.loop-i in
+    let xs = c.args.times in
     let i = l.i in
     let e = get_or xs i nothing in
     let long = length-map (take i xs) unmarked ∙ length-take-le i xs (omega arith) in (
@@ -34,8 +34,8 @@ loop-again c =
 
 returns : tie.Need-returns invariant-loop decreases-loop
 returns c =
-    let l = c.before.loop in
-    let xs = c.before.before.args.t1 in
+    let l = c.loop-i in
+    let xs = c.args.times in
     let end : most_bounds - length (map unmarked xs) ≡ 0 = omega (arith, length-map xs unmarked) in
     l.invariant.1 ∙ rw (take_all l.i xs (omega arith), end) (append-nil (map unmarked xs))
 

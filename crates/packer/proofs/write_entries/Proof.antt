@@ -20,64 +20,52 @@ use Rattle.packer.proofs.write_entries.Tie as tie
 whole_of : (c : tie.Start) → case_fault c.args.case ≡ none → Whole c.args.case
 whole_of c h = whole c.args.form _ c.requires.0 h (omega arith) (omega arith) (omega arith)
 
-returns : tie.Need-returns
+returns : tie.Need-returns-in-Refused
 unfolding write_fault told output_after
 returns c =
-    let f = c.before in
-    let e = refused_for _ f.before.before.form-fault.ensures f.f.given.1 in
-    record { answer = simp e; output = simp e; whole = whole_of f.before.before.before.before }
+    let e = refused_for _ c.form_fault.ensures c.in-Refused.is in
+    record { answer = simp e; output = simp e; whole = whole_of c.before.before.before }
 
 -- the case has no fault
-clean : (c : tie.After-enum-told) → let a = c.before.before.before.before.args in form_fault a.form a.case ≡ none
-clean c = accepted _ c.before.before.form-fault.ensures c.enum_told.given.1
+clean : (c : tie.In_default) → let a = c.args in form_fault a.form a.case ≡ none
+clean c = accepted _ c.form_fault.ensures c.in_default.is
 
-faultless : (c : tie.After-enum-told) → case_fault c.before.before.before.before.args.case ≡ none
+faultless : (c : tie.In_default) → case_fault c.args.case ≡ none
 faultless c = form_case _ _ (clean c)
 
 -- the bytes that it takes
-needed : (c : tie.After-case-length) →
-    let a = c.before.before.before.before.before.before.args in
-    (c.case-length.result + 7) / 8 ≡ length (packed_as a.form a.case)
+needed : (c : tie.After-case_length) →
+    let a = c.args in
+    (c.case_length.result + 7) / 8 ≡ length (packed_as a.form a.case)
 unfolding packed_as
 needed c =
-    let s = c.before.before.before.before.before.before in
-    rw (case_bits_lem s.args.form _ s.requires.0, length_bytes, c.case-length.ensures s.args.case.horizon.0) refl
+    rw (case_bits_lem c.args.form _ c.requires.0, length_bytes, c.case_length.ensures c.args.case.horizon.0) refl
 
-returns-2 : tie.Need-returns-2
+returns-2 : tie.Need-returns-then-out-needed
 unfolding write_fault room_for told output_after
 returns-2 c =
-    let d = c.before in
-    let e = d.before.before in
-    let s = e.before.before.before.before in
-    let a = s.args in
-    let short = lt-ltb (length a.out.now) (length (packed_as a.form a.case)) (omega (arith, needed d)) in
+    let a = c.args in
+    let short = lt-ltb (length a.out.now) (length (packed_as a.form a.case)) (omega (arith, needed c.before)) in
     record {
-      answer = simp (clean e, short, needed d);
-      output = simp (clean e, short);
-      whole = whole_of s;
+      answer = simp (clean c.before.before.before, short, needed c.before);
+      output = simp (clean c.before.before.before, short);
+      whole = whole_of c.before.before.before.before.before.before;
     }
 
-put-case-requires : tie.Need-put-case-requires
+put-case-requires : tie.Need-put_case-requires
 unfolding packed_as
 put-case-requires c κs =
-    let d = c.before.before in
-    let e = d.before.before in
-    let s = e.before.before.before.before in
-    (sound _ _ s.requires.0 s.requires.1 (clean e), rw (← (case_bits_lem s.args.form _ s.requires.0)) (omega (arith, needed d)))
+    (sound _ _ c.requires.0 c.requires.1 (clean c.before.before.before.before), rw (← (case_bits_lem c.args.form _ c.requires.0)) (omega (arith, needed c.before.before)))
 
-returns-3 : tie.Need-returns-3
+returns-3 : tie.Need-returns
 unfolding write_fault room_for told output_after packed_as
 returns-3 c =
-    let p = c.before.before in
-    let d = p.before.before.before in
-    let e = d.before.before in
-    let s = e.before.before.before.before in
-    let a = s.args in
-    let enough = le-ltb (length a.out.now) (length (packed_as a.form a.case)) (omega (arith, needed d)) in
+    let a = c.args in
+    let enough = le-ltb (length a.out.now) (length (packed_as a.form a.case)) (omega (arith, needed c.before.before.before.before.before)) in
     record {
-      answer = simp (clean e, enough, needed d);
-      output = simp (clean e, enough) (rw (← (case_bits_lem a.form _ s.requires.0)) at p.put-case.ensures);
-      whole = whole_of s;
+      answer = simp (clean c.before.before.before.before.before.before.before, enough, needed c.before.before.before.before.before);
+      output = simp (clean c.before.before.before.before.before.before.before, enough) (rw (← (case_bits_lem a.form _ c.requires.0)) at c.put_case.ensures);
+      whole = whole_of c.before.before.before.before.before.before.before.before.before.before;
     }
 
 pub write_entries_spec : {M : Type 1} → statement M
@@ -88,8 +76,8 @@ write_entries_spec =
     (λ c. search rules)
     returns
     (λ c. search rules)
-    (λ c κs. (case_departures _ (faultless c.before), c.before.before.before.before.before.requires.1))
-    (λ c. omega (arith, needed c, longest _ _ c.before.before.before.before.before.before.requires.1 (faultless c.before.before)))
+    (λ c κs. (case_departures _ (faultless c.before), c.requires.1))
+    (λ c. omega (arith, needed c, longest _ _ c.requires.1 (faultless c.before.before)))
     returns-2
     put-case-requires
     (λ c. search rules)

@@ -19,25 +19,25 @@ use Rattle.runs.proofs.next_times.Tie as tie
 abbrev next_time : ℕ → ℕ → List Slot → List Seconds → ℕ → ℤ
 next_time n factor table x = next n (table_in factor n table) (clocked (times_of n x))
 
-abbrev invariant-loop : tie.invariant-loop
+abbrev invariant-loop : tie.invariant-loop-row
 invariant-loop table x n factor times₀ row₀ times row = (row ≤ n) × (times ≡ all_times (tabulate row 1 (next_time n factor table x)))
 
-abbrev decreases-loop : tie.decreases-loop
+abbrev decreases-loop : tie.decreases-loop-row
 decreases-loop table x n factor times₀ row₀ times row = n - row
 
-loop-holds : tie.Need-loop-init invariant-loop decreases-loop
+loop-holds : tie.Need-loop-row-init invariant-loop decreases-loop
 unfolding tabulate
 loop-holds c = (omega arith, refl)
 
-loop-again : tie.Need-loop-preserved invariant-loop decreases-loop
+loop-again : tie.Need-loop-row-preserved invariant-loop decreases-loop
 loop-again c =
-    let l = c.before.before.loop in
-    let a = c.before.before.before.args in
-    (omega arith, simp (l.invariant.1, c.row-largest.ensures) (computed l.row (omega arith) (next_time a.n a.factor a.table a.x)))
+    let l = c.loop-row in
+    let a = c.args in
+    (omega arith, simp (l.invariant.1, c.row_largest-time.ensures) (computed l.row (omega arith) (next_time a.n a.factor a.table a.x)))
 
 returns : tie.Need-returns invariant-loop decreases-loop
 unfolding cycle
-returns c = let l = c.before.loop in let e : l.row ≡ c.before.before.args.n = omega arith in rw e at l.invariant.1
+returns c = let l = c.loop-row in let e : l.row ≡ c.args.n = omega arith in rw e at l.invariant.1
 
 pub next_times_spec : {M : Type 1} → statement M
 next_times_spec =
@@ -46,7 +46,7 @@ next_times_spec =
     invariant-loop
     decreases-loop
     loop-holds
-    (λ c κs. (c.before.before.requires, c.loop-test.true))
+    (λ c κs. (c.requires, c.loop-row-test.true))
     (λ c. omega arith)
     (λ c. omega arith)
     (λ c. omega arith)

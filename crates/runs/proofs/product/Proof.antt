@@ -9,16 +9,16 @@ use Rattle.runs.proofs.product.Statement.{statement}
 use Rattle.runs.proofs.product.Tie as tie
 
 -- the two factors
-value : (c : tie.After-struct-told) → let z = c.before.before.args.value.0 in to_z w64 (of_z w64 z) ≡ z
+value : (c : tie.After-struct_told-1) → let z = c.args.value.0 in to_z w64 (of_z w64 z) ≡ z
 value c = search rules
 
-factor : (c : tie.After-struct-told) → let k = c.before.before.args.factor in to_z w64 k ≡ pos k
-factor c = to_z_pos w64 c.before.before.args.factor c.before.before.requires.1
+factor : (c : tie.After-struct_told-1) → let k = c.args.factor in to_z w64 k ≡ pos k
+factor c = to_z_pos w64 c.args.factor c.requires.1
 
 pub product_spec : {M : Type 1} → statement M
 product_spec =
     tie.close
     (tie.spec
     (λ c. search rules)
-    (λ c. rw (value c, factor c) c.before.before.requires.0)
-    (λ c. rw (value c, factor c) (to_z-of_z w64 _ c.before.before.requires.0)))
+    (λ c. rw (value c, factor c) c.requires.0)
+    (λ c. rw (value c, factor c) (to_z-of_z w64 _ c.requires.0)))

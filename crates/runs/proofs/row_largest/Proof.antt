@@ -28,10 +28,10 @@ use Rattle.runs.proofs.row_largest.Tie as tie
 abbrev sums : ℕ → ℕ → List Slot → List Seconds → ℕ → ℕ → Time
 sums n factor table x i j = after (secs (clocked (times_of n x) j)) (time n (table_in factor n table) i j)
 
-abbrev invariant-loop : tie.invariant-loop
+abbrev invariant-loop : tie.invariant-loop-column
 invariant-loop n row factor table x first kept₀ column₀ kept column = (column ≤ n) × (time_of kept ≡ latest_of column (sums n factor table x (row + 1)))
 
-abbrev decreases-loop : tie.decreases-loop
+abbrev decreases-loop : tie.decreases-loop-column
 decreases-loop n row factor table x first kept₀ column₀ kept column = n - column
 
 -- the row is within the table
@@ -39,67 +39,55 @@ in_table : (c : tie.Start invariant-loop decreases-loop) → c.args.row * c.args
 in_table c = row_fits c.requires.0.limits.departures c.requires.1
 
 -- the entry that is read
-entry : (c : tie.After-entry invariant-loop decreases-loop) →
-    let u = c.before in
-    let a = u.before.before.args in
-    let j = u.before.loop.column in
-    time a.n (table_of a.n a.t1) (a.row + 1) (j + 1) ≡ time_of (get_or a.t1 (a.row * a.n + j) nothing)
+entry : (c : tie.After-entry-1 invariant-loop decreases-loop) →
+    let a = c.args in
+    let j = c.loop-column.column in
+    time a.n (table_of a.n a.table) (a.row + 1) (j + 1) ≡ time_of (get_or a.table (a.row * a.n + j) nothing)
 entry c =
-    let u = c.before in
-    let s = u.before.before in
-    slot_at_lem s.args.n s.args.t1 s.args.row u.before.loop.column s.requires.1 u.loop-test.true
+    slot_at_lem c.args.n c.args.table c.args.row c.loop-column.column c.requires.1 c.loop-column-test.true
 
-in-parts-requires : tie.Need-in-parts-requires invariant-loop decreases-loop
+in-parts-requires : tie.Need-in_parts-summand-requires invariant-loop decreases-loop
 in-parts-requires c κs =
-    let u = c.before in
-    let s = u.before.before in
-    let a = s.args in
-    let small = time_small a.n _ s.requires.0.limits.times_small (a.row + 1) (u.before.loop.column + 1) in
+    let a = c.args in
+    let small = time_small a.n _ c.requires.0.limits.times_small (a.row + 1) (c.loop-column.column + 1) in
     (rw (entry c) at small, omega arith)
 
 -- the sum that is looked at, of the time that is read and the entry in parts
-looked : (c : tie.After-time invariant-loop decreases-loop) →
-    let p = c.before in
-    let u = p.before.before in
-    let a = u.before.before.args in
-    let j = u.before.loop.column in
-    let x = get_or a.t2 j (seconds (pos 0)) in
-    sums a.n a.factor a.t1 a.t2 (a.row + 1) (j + 1) ≡ after (secs x.0) (time_of p.in_parts_lem.result)
+looked : (c : tie.After-time-1 invariant-loop decreases-loop) →
+    let a = c.args in
+    let j = c.loop-column.column in
+    let x = get_or a.x j (seconds (pos 0)) in
+    sums a.n a.factor a.table a.x (a.row + 1) (j + 1) ≡ after (secs x.0) (time_of c.in_parts-summand.result)
 looked c =
-    let p = c.before in
-    let u = p.before.before in
-    let a = u.before.before.args in
-    let j = u.before.loop.column in
-    let in_table = time_parts a.factor a.n (table_of a.n a.t1) (a.row + 1) (j + 1) in
-    ap₂ (λ (x : ℤ). after (secs x)) (time_at a.n j a.t2 u.loop-test.true)
-    (in_table ∙ ap (scale_time a.factor) (entry p.before) ∙ sym p.in_parts_lem.ensures)
+    let a = c.args in
+    let j = c.loop-column.column in
+    let in_table = time_parts a.factor a.n (table_of a.n a.table) (a.row + 1) (j + 1) in
+    ap₂ (λ (x : ℤ). after (secs x)) (time_at a.n j a.x c.loop-column-test.true)
+    (in_table ∙ ap (scale_time a.factor) (entry c.before.before) ∙ sym c.in_parts-summand.ensures)
 
-later-sum-requires : tie.Need-later-sum-requires invariant-loop decreases-loop
+later-sum-requires : tie.Need-later_sum-kept-requires invariant-loop decreases-loop
 unfolding time_of secs_of
 later-sum-requires c κs =
-    let u = c.before.before.before in
-    let s = u.before.before in
-    let a = s.args in
-    let j = u.before.loop.column + 1 in
-    let summand = time a.n (table_in a.factor a.n a.t1) (a.row + 1) j in
-    let small = table_small a.n a.factor _ s.requires.0.limits.times_small s.requires.0.few_parts (a.row + 1) j in
-    let sum = after_small (secs (clocked (times_of a.n a.t2) j)) summand (s.requires.0.times_small j) small in
+    let a = c.args in
+    let j = c.loop-column.column + 1 in
+    let summand = time a.n (table_in a.factor a.n a.table) (a.row + 1) j in
+    let small = table_small a.n a.factor _ c.requires.0.limits.times_small c.requires.0.few_parts (a.row + 1) j in
+    let sum = after_small (secs (clocked (times_of a.n a.x) j)) summand (c.requires.0.times_small j) small in
     sized_fits _ (omega (arith, rw (looked c) at sum))
 
-loop-again : tie.Need-loop-preserved invariant-loop decreases-loop
+loop-again : tie.Need-loop-column-preserved invariant-loop decreases-loop
 unfolding time_of
 loop-again c =
-    let l = c.before.before.before.before.before.loop in
-    (omega arith, c.later-sum.ensures ∙ ap₂ later l.invariant.1 (sym (looked c.before)) ∙ sym (latest_of_more l.column _))
+    let l = c.loop-column in
+    (omega arith, c.later_sum-kept.ensures ∙ ap₂ later l.invariant.1 (sym (looked c.before)) ∙ sym (latest_of_more l.column _))
 
 returns : tie.Need-returns invariant-loop decreases-loop
 returns c =
-    let l = c.before.before.loop in
-    let s = c.before.before.before in
-    let a = s.args in
+    let l = c.loop-column in
+    let a = c.args in
     let e : l.column ≡ a.n = omega arith in
-    let regular = regular_parts a.factor a.n _ s.requires.0.limits.regular in
-    let is = next_is a.n _ regular (clocked (times_of a.n a.t2)) (a.row + 1) (omega arith) (omega arith) in
+    let regular = regular_parts a.factor a.n _ c.requires.0.limits.regular in
+    let is = next_is a.n _ regular (clocked (times_of a.n a.x)) (a.row + 1) (omega arith) (omega arith) in
     ap seconds (value_is l.auto _ ((rw e at l.invariant.1) ∙ is))
 
 pub row_largest_spec : {M : Type 1} → statement M

@@ -31,74 +31,69 @@ abbrev decreases-loop : tie.decreases-loop
 decreases-loop factor judged n count table times₀ counter₀ times counter = count - counter
 
 -- an accepted run is in the limits
-limits : (c : tie.After-enum-told2 invariant-loop decreases-loop) → let a = c.before.before.before.args in RunLimits a.case a.start a.cycle.0
-limits c = run_limits _ _ _ (accepted _ c.before.before.run-fault.ensures c.enum-told2.given.1)
+limits : (c : tie.In_default invariant-loop decreases-loop) → let a = c.args in RunLimits a.case a.start a.cycle.0
+limits c = run_limits _ _ _ (accepted _ c.run_fault-judged.ensures c.in_default.is)
 
-table : (c : tie.After-enum-told2 invariant-loop decreases-loop) → let w = c.before.before.before.args.case in TableLimits w.n (table_of w.n w.times)
+table : (c : tie.In_default invariant-loop decreases-loop) → let w = c.args.case in TableLimits w.n (table_of w.n w.times)
 unfolding network
 table c = (limits c).table
 
 -- the loop starts from the start times
-begun : (c : tie.After-first-times invariant-loop decreases-loop) →
-    let a = c.before.before.before.before.before.args in
-    times_of a.case.n c.first_times.result ≡ times_of a.case.n a.start
+begun : (c : tie.After-first_times-times invariant-loop decreases-loop) →
+    let a = c.args in
+    times_of a.case.n c.first_times-times.result ≡ times_of a.case.n a.start
 begun c =
-    let a = c.before.before.before.before.before.args in
+    let a = c.args in
     let n = a.case.n in
-    rw c.first_times.ensures (times_back n (times_of n a.start) (length_times n a.start (omega (arith, table c.before.before))))
+    rw c.first_times-times.ensures (times_back n (times_of n a.start) (length_times n a.start (omega (arith, table c.before.before))))
 
 -- the times after some turns, in the array and as a list
 held : (c : tie.At-loop invariant-loop decreases-loop) →
-    let a = c.before.before.before.before.before.before.args in
+    let a = c.args in
     let n = a.case.n in
     c.loop.times ≡ all_times (cycles n (table_in a.factor n a.case.times) c.loop.counter (times_of n a.start))
 held c = rw (← (begun c.before)) c.loop.invariant.1
 
 reached : (c : tie.At-loop invariant-loop decreases-loop) →
-    let a = c.before.before.before.before.before.before.args in
+    let a = c.args in
     let n = a.case.n in
     times_of n c.loop.times ≡ cycles n (table_in a.factor n a.case.times) c.loop.counter (times_of n a.start)
 reached c =
-    let a = c.before.before.before.before.before.before.args in
+    let a = c.args in
     let n = a.case.n in
     let long = length_times n a.start (omega (arith, table c.before.before.before)) in
     rw (held c) (times_back n _ (length_cycles n _ c.loop.counter _ long))
 
-returns : tie.Need-returns invariant-loop decreases-loop
+returns : tie.Need-returns-in-Refused invariant-loop decreases-loop
 returns c =
-    let e = c.enum_told.given.1 in
-    ap (λ (j : Judged). record { judged = j; times = all_times [] }) e ∙ sym (run_refused _ _ _ _ (refused_for _ c.before.before.run-fault.ensures e))
+    let e = c.in-Refused.is in
+    ap (λ (j : Judged). record { judged = j; times = all_times [] }) e ∙ sym (run_refused _ _ _ _ (refused_for _ c.run_fault-judged.ensures e))
 
 loop-holds : tie.Need-loop-init invariant-loop decreases-loop
 unfolding cycles
-loop-holds c = (omega arith, c.first_times.ensures ∙ ap all_times (sym (begun c)))
+loop-holds c = (omega arith, c.first_times-times.ensures ∙ ap all_times (sym (begun c)))
 
-next-times-requires : tie.Need-next-times-requires invariant-loop decreases-loop
+next-times-requires : tie.Need-next_times-next-requires invariant-loop decreases-loop
 next-times-requires c κs =
-    let d = c.before.before.before.before in
-    let s = d.before.before.before in
-    let one = table_small _ s.args.factor _ (table d).times_small s.requires in
-    let small = cycles_small _ _ (time_limit * most_parts) one c.before.loop.counter (map_every (λ x. x.0) (limits d).starts_small) in
-    record { limits = table d; few_parts = s.requires; times_small = rw (reached c.before) (λ j. omega (arith, small j, limits d)) }
+    let one = table_small _ c.args.factor _ (table c.before.before.before.before).times_small c.requires in
+    let small = cycles_small _ _ (time_limit * most_parts) one c.loop.counter (map_every (λ x. x.0) (limits c.before.before.before.before).starts_small) in
+    record { limits = table c.before.before.before.before; few_parts = c.requires; times_small = rw (reached c.before) (λ j. omega (arith, small j, limits c.before.before.before.before)) }
 
 loop-again : tie.Need-loop-preserved invariant-loop decreases-loop
 unfolding cycles
 loop-again c =
-    let l = c.before.before in
-    let a = l.before.before.before.before.before.before.args in
+    let a = c.args in
     let w = a.case in
-    let step = ap (λ (xs : List ℤ). all_times (cycle w.n (table_in a.factor w.n w.times) xs)) (reached l) in
-    (omega arith, c.next-times.ensures ∙ rw (add-one, begun l.before) step)
+    let step = ap (λ (xs : List ℤ). all_times (cycle w.n (table_in a.factor w.n w.times) xs)) (reached c.before.before) in
+    (omega arith, c.next_times-next.ensures ∙ rw (add-one, begun c.before.before.before) step)
 
-returns-2 : tie.Need-returns-2 invariant-loop decreases-loop
+returns-2 : tie.Need-returns invariant-loop decreases-loop
 unfolding network
 returns-2 c =
-    let l = c.before in
-    let d = l.before.before.before in
-    let f = d.before.before.run-fault in
-    let e = d.enum-told2.given.1 in
-    let k : l.loop.counter ≡ d.before.before.before.args.cycle.0 = omega arith in
-    ap₂ (λ (j : Judged) (ts : List Seconds). record { judged = j; times = ts }) e (rw k at (held l)) ∙ sym (run_accepted _ _ _ _ (accepted _ f.ensures e))
+    let f = c.run_fault-judged in
+    let e = c.in_default.is in
+    let k : c.loop.counter ≡ c.args.cycle.0 = omega arith in
+    ap₂ (λ (j : Judged) (ts : List Seconds). record { judged = j; times = ts }) e (rw k at (held c.before)) ∙ sym (run_accepted _ _ _ _ (accepted _ f.ensures e))
 
 pub run_by_spec : {M : Type 1} → statement M
 run_by_spec =

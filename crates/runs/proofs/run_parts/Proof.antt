@@ -11,14 +11,13 @@ use Rattle.runs.proofs.run_parts.Tie as tie
 
 returns : tie.Need-returns
 returns c =
-    let p = c.before in
-    let a = p.before.args in
-    c.run_by.ensures ∙ ap (λ (k : ℕ). run_in_parts k a.case a.start a.cycle.0) p.parts.ensures ∙ run_start _ _ _
+    let a = c.args in
+    c.run_by.ensures ∙ ap (λ (k : ℕ). run_in_parts k a.case a.start a.cycle.0) c.parts-factor.ensures ∙ run_start _ _ _
 
 pub run_parts_spec : {M : Type 1} → statement M
 run_parts_spec =
     tie.close
     (tie.spec
     (λ c κs. search rules)
-    (λ c κs. omega (arith, c.parts.ensures, parts_few c.before.args.case))
+    (λ c κs. omega (arith, c.parts-factor.ensures, parts_few c.args.case))
     returns)

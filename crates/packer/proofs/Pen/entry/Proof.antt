@@ -11,55 +11,40 @@ use Rattle.packer.proofs.Pen.entry.Statement.{statement}
 use Rattle.packer.proofs.Pen.entry.Tie as tie
 
 -- what the test found
-absent : (c : tie.Then1) → c.before.before.before.args.entry.has ≡ false
-absent c = not-true _ c.if1.true
+absent : (c : tie.Then-not-entry) → c.args.entry.has ≡ false
+absent c = not-true _ c.if-not-entry.true
 
-there : (c : tie.Else1) → c.before.before.before.args.entry.has ≡ true
-there c = not-false _ c.if1.false
+there : (c : tie.Else-not-entry) → c.args.entry.has ≡ true
+there c = not-false _ c.if-not-entry.false
 
 bits-requires : tie.Need-bits-requires
 bits-requires c κs =
-    let t = c.before in
-    let s = t.before.before.before in
-    omega (arith, absent_length s.args.widths s.args.entry (absent t))
+    omega (arith, absent_length c.args.widths c.args.entry (absent c.before))
 
-returns : tie.Need-returns
+returns : tie.Need-returns-then-not-entry
 returns c =
-    let b = c.before.before in
-    let t = b.before.before in
-    let a = t.before.before.before.args in
-    rw (entry_absent a.widths a.entry (absent t)) b.bits.ensures
+    let a = c.args in
+    rw (entry_absent a.widths a.entry (absent c.before.before.before.before)) c.bits.ensures
 
-number-requires : tie.Need-number-requires
+number-requires : tie.Need-number-number-requires
 number-requires c κs =
-    let s = c.before.before.before in
-    (s.requires.1.some, s.requires.1.few, s.requires.2.value_small (there c))
+    (c.requires.1.some, c.requires.1.few, c.requires.2.value_small (there c))
 
-bits-requires-2 : tie.Need-bits-requires-2
+bits-requires-2 : tie.Need-bits-pen-requires
 bits-requires-2 c κs =
-    let e = c.before.before in
-    let s = e.before.before.before in
-    omega (arith, present_length s.args.widths s.args.entry (there e))
+    omega (arith, present_length c.args.widths c.args.entry (there c.before.before))
 
-bits-requires-3 : tie.Need-bits-requires-3
-bits-requires-3 c κs =
-    let b = c.before.before.before.before in
-    let n = b.before.before in
-    let e = n.before in
-    let s = e.before.before.before in (
-      omega (arith, present_length s.args.widths s.args.entry (there e), length_field 1 1),
-      omega arith,
-      rw n.number.ensures (s.requires.2.number_small (there e)),
-    )
+bits-requires-3 : tie.Need-bits-requires-2
+bits-requires-3 c κs = (
+  omega (arith, present_length c.args.widths c.args.entry (there c.before.before.before.before.before.before.before), length_field 1 1),
+  omega arith,
+  rw c.number-number.ensures (c.requires.2.number_small (there c.before.before.before.before.before.before.before)),
+)
 
-returns-2 : tie.Need-returns-2
+returns-2 : tie.Need-returns
 returns-2 c =
-    let d = c.before.before in
-    let b = d.before.before.before.before.before in
-    let n = b.before.before in
-    let e = n.before in
-    let a = e.before.before.before.args in
-    rw (entry_present a.widths a.entry (there e), ← n.number.ensures) (inks_then b.bits2.ensures d.bits3.ensures)
+    let a = c.args in
+    rw (entry_present a.widths a.entry (there c.before.before.before.before.before.before.before.before.before.before), ← c.number-number.ensures) (inks_then c.bits-pen.ensures c.bits-2.ensures)
 
 pub entry_spec : {M : Type 1} → statement M
 entry_spec =

@@ -6,20 +6,19 @@ use Rattle.packer.proofs.Inking.{unfilled, fills}
 use Rattle.packer.proofs.Pen.fill.Statement.{statement}
 use Rattle.packer.proofs.Pen.fill.Tie as tie
 
-sub-bits : tie.Need-overflow-sub-bits
+sub-bits : tie.Need-overflow_sub-held
 sub-bits c = search rules
 
 bits-requires : tie.Need-bits-requires
 bits-requires c κs =
-    omega (arith, pow_pos (unfilled c.before.before.args.self.held))
+    omega (arith, pow_pos (unfilled c.args.self.held))
 
-same_length : tie.Need-same-length
+same_length : tie.Need-shape_of-out
 same_length c = search rules
 
 returns : tie.Need-returns
 returns c =
-    let b = c.before.before in
-    fills _ _ _ _ b.before.before.before.requires.few b.bits.ensures
+    fills _ _ _ _ c.requires.few c.bits.ensures
 
 pub fill_spec : {M : Type 1} → statement M
 fill_spec = tie.close (tie.spec sub-bits bits-requires same_length returns)

@@ -17,34 +17,26 @@ use Rattle.packer.proofs.Pen.head.Tie as tie
 long : (c : tie.Start) → let a = c.args in length (head_bits a.form a.n a.horizon.0) ≡ a.form.lead + a.form.digits + horizon_width
 long c = simp (length-append, length_field)
 
-bits-requires : tie.Need-bits-requires
-bits-requires c κs = let s = c.before.before in omega (arith, long s, pow_pos s.args.form.lead)
+bits-requires : tie.Need-bits-after_lead-requires
+bits-requires c κs = omega (arith, long c.before.before, pow_pos c.args.form.lead)
 
-cast-bits : tie.Need-overflow-cast-bits
-cast-bits c = let s = c.before.before.before.before.before.before in omega (arith, places_few s.requires.1.form)
+cast-bits : tie.Need-overflow_cast-n
+cast-bits c = omega (arith, places_few c.requires.1.form)
 
-bits-requires-2 : tie.Need-bits-requires-2
+bits-requires-2 : tie.Need-bits-after_n-requires
 bits-requires-2 c κs =
-    let b = c.before.before.before in
-    let s = b.before.before.before in
-    let f = s.args.form in
-    let place : s.args.n < 2 ^ f.digits = omega (arith, pow_pos f.digits) in
-    (omega (arith, long s, length_field f.lead 0), omega arith, place)
+    let f = c.args.form in
+    let place : c.args.n < 2 ^ f.digits = omega (arith, pow_pos f.digits) in
+    (omega (arith, long c.before.before.before.before.before.before, length_field f.lead 0), omega arith, place)
 
-bits-requires-3 : tie.Need-bits-requires-3
+bits-requires-3 : tie.Need-bits-requires
 bits-requires-3 c κs =
-    let m = c.before.before.before.before in
-    let b = m.before.before.before.before in
-    let s = b.before.before.before in
-    let f = s.args.form in
-    omega (arith, long s, length_field f.lead 0, length_field f.digits s.args.n)
+    let f = c.args.form in
+    omega (arith, long c.before.before.before.before.before.before.before.before.before.before.before, length_field f.lead 0, length_field f.digits c.args.n)
 
 returns : tie.Need-returns
 returns c =
-    let d = c.before.before in
-    let m = d.before.before.before.before.before in
-    let b = m.before.before.before.before in
-    inks_then (inks_then b.bits.ensures m.bits2.ensures) d.bits3.ensures
+    inks_then (inks_then c.bits-after_lead.ensures c.bits-after_n.ensures) c.bits.ensures
 
 pub head_spec : {M : Type 1} → statement M
 head_spec =

@@ -16,25 +16,18 @@ long : (c : tie.Start) → let a = c.args in let k = of_widths (bound_widths a.f
     ≡ length (entries_bits k (take a.size a.start)) + length (entries_bits k (take a.size a.target))
 long c = simp length-append
 
-entries-requires : tie.Need-entries-requires
+entries-requires : tie.Need-entries-pen-requires
 entries-requires c κs =
-    let w = c.before in
-    let s = w.before.before in
-    rw w.bound-widths.ensures (omega (arith, long s), omega arith, s.requires.1.start_in_lem)
+    rw c.bound_widths-widths.ensures (omega (arith, long c.before.before.before), omega arith, c.requires.1.start_in_lem)
 
-entries-requires-2 : tie.Need-entries-requires-2
+entries-requires-2 : tie.Need-entries-requires
 entries-requires-2 c κs =
-    let b = c.before.before.before in
-    let w = b.before.before in
-    let s = w.before.before in
-    let first = rw w.bound-widths.ensures at b.entries.ensures in
-    rw w.bound-widths.ensures (omega (arith, long s), omega arith, s.requires.1.target_in)
+    let first = rw c.bound_widths-widths.ensures at c.entries-pen.ensures in
+    rw c.bound_widths-widths.ensures (omega (arith, long c.before.before.before.before.before.before.before), omega arith, c.requires.1.target_in)
 
 returns : tie.Need-returns
 returns c =
-    let d = c.before.before in
-    let b = d.before.before.before.before in
-    rw b.before.before.bound-widths.ensures at (inks_then b.entries.ensures d.entries2.ensures)
+    rw c.bound_widths-widths.ensures at (inks_then c.entries-pen.ensures c.entries.ensures)
 
 pub patterns_spec : {M : Type 1} → statement M
 patterns_spec =
