@@ -1,5 +1,5 @@
 -- The loop over the zones of a list: those that are still to be met with the pattern.
-use Prim.Native.Nat.{ℕ, ◌+◌, ◌*◌, ◌-◌, ◌≤◌, ◌<◌}
+use Prim.Native.Nat.{ℕ, ◌+◌, ◌*◌, ◌≤◌, ◌<◌}
 use native.Mathlib.Omega.{arith}
 use native.Mathlib.Nat.{mul-le-mul_right, suc-mul}
 use mathlib.Core.Path.{◌≡◌, ap, ◌∙◌}

@@ -50,7 +50,7 @@ reached_spec =
     (λ c κs. search rules)
     (λ c. omega (arith, inside c))
     (λ c. omega (arith, inside c))
-    (λ c. omega (arith, inside c, c.before.well-formed.0))
+    (λ c. omega (arith, inside c, c.before.well_formed.0))
     (λ c. search rules)
     (λ c. search rules)
     inside

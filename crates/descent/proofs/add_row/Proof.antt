@@ -37,35 +37,31 @@ module _ {n : ℕ} {part times zone : List ℤ} {cols : List ℕ} {i s : ℕ} (r
   two = record { is = refl }
 
 attain-requires : tie.Need-attain-requires
-attain-requires c κs = let r = c.before.before.requires in record { taking = first_of (two r) (whole r); adds = adds r; from_one = r.from_one }
+attain-requires c κs = let r = c.requires in record { taking = first_of (two r) (whole r); adds = adds r; from_one = r.from_one }
 
-returns : tie.Need-returns
+returns : tie.Need-returns-then-not-attain
 returns c =
-    let k = c.before.before in
-    let r = k.before.before.before.requires in
-    given_up (two r) (whole r) k.attain.ensures c.if1.true
+    let r = c.requires in
+    given_up (two r) (whole r) c.attain.ensures c.if-not-attain.true-raw
 
-attained : (e : tie.Else1) →
-    let s = e.before.before.before.before.before.args in
+attained : (e : tie.Else-not-attain) →
+    let s = e.args in
     let a = times_in s.table.now in
     let d = bounds_in s.zone.now in
     Toward s.n Stored (bounds_in s.part.now) (first_constraints s.n a d s.cols.now s.i s.s)
-    (bounds_in e.before.before.attain.new.0) (images s.n a d s.cols.now s.i s.s)
+    (bounds_in e.attain.new.part) (images s.n a d s.cols.now s.i s.s)
 attained e =
-    let k = e.before.before in
-    let r = k.before.before.before.requires in
-    onward (two r) (whole r) k.attain.ensures e.if1.false
+    let r = e.requires in
+    onward (two r) (whole r) e.attain.ensures e.if-not-attain.false-raw
 
-keep-images-requires : tie.Need-keep-images-requires
+keep-images-requires : tie.Need-keep_images-requires
 keep-images-requires c κs =
-    let e = c.before in
-    let p = e.before.before.before.before.before.requires in
-    record { taking = (attained e).taking; source = p.source; adds = adds p; cols_size = p.cols_size; columns = p.columns }
+    let p = c.requires in
+    record { taking = (attained c.before).taking; source = p.source; adds = adds p; cols_size = p.cols_size; columns = p.columns }
 
-returns-2 : tie.Need-returns-2
+returns-2 : tie.Need-returns
 returns-2 c =
-    let k = c.before in
-    at_last (attained k.before.before) k.keep-images.ensures
+    at_last (attained c.before.before.before) c.keep_images.ensures
 
 pub add_row_spec : {M : Type 1} → statement M
 add_row_spec =

@@ -21,99 +21,83 @@ use Rattle.descent.specs.Numbers.{times_in}
 use Rattle.descent.proofs.attain.Statement.{statement}
 use Rattle.descent.proofs.attain.Tie as tie
 
-abbrev invariant-loop : tie.invariant-loop
+abbrev invariant-loop : tie.invariant-loop-j
 invariant-loop part₀ table n i s c j₀ part j =
     Toward n Stored (bounds_in part₀) (attains_first n (times_in table) i s) (bounds_in part) (from (leading n (times_in table) i s) (suc n) j)
     × (1 ≤ j) × (j ≤ suc n) × (length part ≡ length part₀)
 
-abbrev decreases-loop : tie.decreases-loop
+abbrev decreases-loop : tie.decreases-loop-j
 decreases-loop part₀ table n i s c j₀ part j = suc n - j
 
-chosen-requires : tie.Need-chosen-requires invariant-loop decreases-loop
+chosen-requires : tie.Need-chosen-c-requires invariant-loop decreases-loop
 chosen-requires c κs = c.requires.adds
 
-loop-holds : tie.Need-loop-init invariant-loop decreases-loop
+loop-holds : tie.Need-loop-j-init invariant-loop decreases-loop
 unfolding attains_first
 loop-holds c =
-    let s = c.before in
-    (toward_start s.requires.taking (from_first _ s.args.n 1 (suc s.args.n) (omega arith)), omega arith, omega arith, refl)
+    (toward_start c.requires.taking (from_first _ c.args.n 1 (suc c.args.n) (omega arith)), omega arith, omega arith, refl)
 
 lead-requires : tie.Need-lead-requires invariant-loop decreases-loop
-lead-requires c κs = c.before.before.chosen.ensures.small
+lead-requires c κs = c.chosen-c.ensures.small
 
-time-at-requires : tie.Need-time-at-requires invariant-loop decreases-loop
+time-at-requires : tie.Need-time_at-requires invariant-loop decreases-loop
 time-at-requires c κs =
-    let l = c.before in
-    let p = l.before.before.before.requires in
-    record { table = p.adds.table; row_from = p.from_one; row_to = p.adds.row; col_from = l.before.loop.invariant.1; col_to = l.loop-test.true }
+    let p = c.requires in
+    record { table = p.adds.table; row_from = p.from_one; row_to = p.adds.row; col_from = c.loop-j.invariant.1; col_to = c.loop-j-test.true }
 
-near : (c : tie.After-time-at invariant-loop decreases-loop) →
-    Small (Largest + 1 + (Largest + 1)) (slack c.before.lead.result.0 (time_of c.time_at.result))
+near : (c : tie.After-time_at invariant-loop decreases-loop) →
+    Small (Largest + 1 + (Largest + 1)) (slack c.lead.result.0 (time_of c.time_at.result))
 near c =
     let t = c.time_at.ensures in
-    rw t.is (slack_small _ _ c.before.lead.ensures.1 (let h = t.small in omega arith))
+    rw t.is (slack_small _ _ c.lead.ensures.1 (let h = t.small in omega arith))
 
-slack-requires : tie.Need-slack-requires invariant-loop decreases-loop
+slack-requires : tie.Need-slack-limit-requires invariant-loop decreases-loop
 slack-requires c κs = small_mono (omega arith) (near c)
 
 -- what is to be taken in next
-next : (l : tie.In-loop invariant-loop decreases-loop) →
-    let s = l.before.before.before.args in
+next : (l : tie.In-loop-j invariant-loop decreases-loop) →
+    let s = l.args in
     let row = leading s.n (times_in s.table.now) s.i s.s in
-    Parts (from row (suc s.n) l.before.loop.j) (row l.before.loop.j ∷ []) (from row (suc s.n) (l.before.loop.j + 1))
+    Parts (from row (suc s.n) l.loop-j.j) (row l.loop-j.j ∷ []) (from row (suc s.n) (l.loop-j.j + 1))
 next l = next_one _ _ _ (omega arith)
 
 -- its limit
-limit : (c : tie.After-slack invariant-loop decreases-loop) →
-    let l = c.before.before.before.before in
-    let s = l.before.before.args in
+limit : (c : tie.After-slack-limit invariant-loop decreases-loop) →
+    let s = c.args in
     let b = times_in s.table.now in
-    as_bound c.slack.result ≡ slack (lead l.loop.j s.s (chosen s.n b s.i s.s)) (time s.n b s.i l.loop.j)
+    as_bound c.slack-limit.result ≡ slack (lead c.loop-j.j s.s (chosen s.n b s.i s.s)) (time s.n b s.i c.loop-j.j)
 limit c =
-    let t = c.before in
-    let d = t.before in
-    let l = d.before.before in
-    let is = d.lead.ensures.0 ∙ ap (lead l.loop.j l.before.before.args.s) l.before.chosen.ensures.is in
-    c.slack.ensures ∙ ap₂ slack is t.time_at.ensures.is
+    let is = c.lead.ensures.0 ∙ ap (lead c.loop-j.j c.args.s) c.chosen-c.ensures.is in
+    c.slack-limit.ensures ∙ ap₂ slack is c.time_at.ensures.is
 
-take-in-requires : tie.Need-take-in-requires invariant-loop decreases-loop
+take-in-requires : tie.Need-take_in-requires invariant-loop decreases-loop
 take-in-requires c κs =
-    let l = c.before in
-    let t = l.before in
-    let i = t.before.before in
     record {
-      taking = rw (limit l) (first_of (next i) i.before.loop.invariant.0);
-      small = rw l.slack.ensures (small_mono (omega arith) (near t));
+      taking = rw (limit c.before) (first_of (next c.before.before.before.before) c.loop-j.invariant.0);
+      small = rw c.slack-limit.ensures (small_mono (omega arith) (near c.before.before));
     }
 
-returns : tie.Need-returns invariant-loop decreases-loop
+returns : tie.Need-returns-then-not-take_in invariant-loop decreases-loop
 returns c =
-    let q = c.before.before in
-    let l = q.before.before in
-    let i = l.before.before.before in
-    given_up (next i) i.before.loop.invariant.0 (rw (limit l) at q.take_in.ensures) c.if1.true
+    given_up (next c.before.before.before.before.before.before.before) c.loop-j.invariant.0 (rw (limit c.before.before.before.before) at c.take_in.ensures) c.if-not-take_in.true-raw
 
-add-j : tie.Need-overflow-add-j invariant-loop decreases-loop
+add-j : tie.Need-overflow_add-j invariant-loop decreases-loop
 add-j c =
-    let i = c.before.before.before.before.before.before.before in
-    omega (arith, i.before.before.before.requires.adds.table.departures.few)
+    omega (arith, c.requires.adds.table.departures.few)
 
-loop-again : tie.Need-loop-preserved invariant-loop decreases-loop
-loop-again c =
-    let q = c.before.before in
-    let l = q.before.before in
-    let i = l.before.before.before in (
-      onward (next i) i.before.loop.invariant.0 (rw (limit l) at q.take_in.ensures) c.if1.false,
-      omega arith,
-      omega arith,
-      omega arith,
-    )
+loop-again : tie.Need-loop-j-preserved invariant-loop decreases-loop
+loop-again c = (
+  onward (next c.before.before.before.before.before.before.before) c.loop-j.invariant.0 (rw (limit c.before.before.before.before) at c.take_in.ensures) c.if-not-take_in.false-raw,
+  omega arith,
+  omega arith,
+  omega arith,
+)
 
-same-length-2 : tie.Need-same-length-2 invariant-loop decreases-loop
-same-length-2 c = c.before.loop.invariant.3
+same-length-2 : tie.Need-shape_of-part invariant-loop decreases-loop
+same-length-2 c = c.loop-j.invariant.3
 
-returns-2 : tie.Need-returns-2 invariant-loop decreases-loop
-returns-2 c = arrived c.before.loop.invariant.0 (from_end _ _ _ (omega arith))
+returns-2 : tie.Need-returns invariant-loop decreases-loop
+returns-2 c = arrived c.loop-j.invariant.0 (from_end _ _ _ (omega arith))
 
 pub attain_spec : {M : Type 1} → statement M
 attain_spec =

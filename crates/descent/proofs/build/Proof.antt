@@ -16,56 +16,44 @@ use Rattle.descent.proofs.build.Tie as tie
 before_is : (s : tie.Start) → s.args.i - 1 + 1 ≡ s.args.i
 before_is s = let h = s.requires.row.from_one in omega arith
 
-room : (c : tie.After-zone-size) →
-    let s = c.before.before in
-    s.args.i * c.zone_size_lem.result + c.zone_size_lem.result ≤ length s.args.sets.now
-room c = rw c.zone_size_lem.ensures (room_here c.before.before.requires)
+room : (c : tie.After-zone_size-size) →
+    c.args.i * c.zone_size-size.result + c.zone_size-size.result ≤ length c.args.sets.now
+room c = rw c.zone_size-size.ensures (room_here c.requires)
 
-copy-down-requires : tie.Need-copy-down-requires
+copy-down-requires : tie.Need-copy_down-requires
 copy-down-requires c κs = rw (before_is c.before.before.before) (room c.before)
 
 -- what stands there then
-is_copied : (c : tie.After-copy-down) → c.copy-down.new.0 ≡ copied c.before.before.before.before.requires
+is_copied : (c : tie.After-copy_down) → c.copy_down.new.sets ≡ copied c.requires
 is_copied c =
-    let z = c.before.before in
-    rw (before_is z.before.before, z.zone_size_lem.ensures) at c.copy-down.ensures
+    rw (before_is c.before.before.before.before, c.zone_size-size.ensures) at c.copy_down.ensures
 
-long : (c : tie.After-copy-down) → length c.copy-down.new.0 ≡ length c.before.before.before.before.args.sets.now
-long c = c.copy-down.auto.0
+long : (c : tie.After-copy_down) → length c.copy_down.new.sets ≡ length c.args.sets.now
+long c = c.copy_down.auto.sets
 
-inside : (c : tie.After-sets) →
-    let k = c.before in
-    let z = k.before.before in
-    z.before.before.args.i * z.zone_size_lem.result + z.zone_size_lem.result ≤ length k.copy-down.new.0
-inside c = let k = c.before in omega (arith, room k.before.before, long k)
+inside : (c : tie.After-sets-1) →
+    c.args.i * c.zone_size-size.result + c.zone_size-size.result ≤ length c.copy_down.new.sets
+inside c = omega (arith, room c.before.before.before, long c.before)
 
-slice-aggregate-add-row : tie.Need-slice-aggregate-add-row
+slice-aggregate-add-row : tie.Need-slice_bounds-add_row-end-2
 slice-aggregate-add-row c =
-    let s = c.before.before.before.before.before.before.before in
-    let r = s.requires.row in
-    sym (length-take-le s.args.i s.args.cols.now (omega (arith, r.cols_size, r.to_n)))
+    let r = c.requires.row in
+    sym (length-take-le c.args.i c.args.cols.now (omega (arith, r.cols_size, r.to_n)))
 
-add-row-requires : tie.Need-add-row-requires
+add-row-requires : tie.Need-add_row-requires
 add-row-requires c κs =
-    let k = c.before.before.before in
-    let z = k.before.before in
-    let s = z.before.before in
-    rw (is_copied k, z.zone_size_lem.ensures, lent_at (zone_size s.args.n) s.args.i (copied s.requires)) (row_ready s.requires)
+    rw (is_copied c.before.before, c.zone_size-size.ensures, lent_at (zone_size c.args.n) c.args.i (copied c.requires)) (row_ready c.requires)
 
 returns : tie.Need-returns
 returns c =
-    let a = c.before in
-    let k = a.before.before.before.before in
-    let z = k.before.before in
-    let s = z.before.before in
-    let size = zone_size s.args.n in
-    let lent = lent_at size s.args.i (copied s.requires) in
-    let same : length (copied s.requires) ≡ length s.args.sets.now = rw (is_copied k) at (long k) in
-    let there : length (numbers_at size (copied s.requires) s.args.i) ≡ size
-    = length_numbers size (copied s.requires) s.args.i (omega (arith, room_here s.requires)) in
-    rw (is_copied k, z.zone_size_lem.ensures)
-    (placed s.requires a.add_row.new.0 same ((rw (is_copied k, z.zone_size_lem.ensures, lent) at a.add_row.auto.0) ∙ there)
-    (rw (is_copied k, z.zone_size_lem.ensures, lent) at a.add_row.ensures))
+    let size = zone_size c.args.n in
+    let lent = lent_at size c.args.i (copied c.requires) in
+    let same : length (copied c.requires) ≡ length c.args.sets.now = rw (is_copied c.before.before.before.before) at (long c.before.before.before.before) in
+    let there : length (numbers_at size (copied c.requires) c.args.i) ≡ size
+    = length_numbers size (copied c.requires) c.args.i (omega (arith, room_here c.requires)) in
+    rw (is_copied c.before.before.before.before, c.zone_size-size.ensures)
+    (placed c.requires c.add_row.new.part same ((rw (is_copied c.before.before.before.before, c.zone_size-size.ensures, lent) at c.add_row.auto.part) ∙ there)
+    (rw (is_copied c.before.before.before.before, c.zone_size-size.ensures, lent) at c.add_row.ensures))
 
 pub build_spec : {M : Type 1} → statement M
 build_spec =
@@ -76,7 +64,7 @@ build_spec =
     copy-down-requires
     (λ c. omega (arith, inside c))
     (λ c. omega (arith, inside c))
-    (λ c. omega (arith, inside c, c.before.before.before.before.before.well-formed.0))
+    (λ c. omega (arith, inside c, c.well_formed.0))
     (λ c. search rules)
     (λ c. search rules)
     inside

@@ -25,36 +25,34 @@ unfolding Memory.times_in
 fused parts [] = refl
 fused parts (z ∷ zs) = ap (◌∷◌ (part_of parts z)) (fused parts zs)
 
-abbrev invariant-loop : tie.invariant-loop
+abbrev invariant-loop : tie.invariant-loop-k
 invariant-loop times parts table₀ k₀ k-end table k =
     (k ≤ length times) × (k-end ≡ length times) × (times_in (take k table) ≡ map (part_of parts) (take k times)) × (length table ≡ most_times)
 
-abbrev decreases-loop : tie.decreases-loop
+abbrev decreases-loop : tie.decreases-loop-k
 decreases-loop times parts table₀ k₀ k-end table k = length times - k
 
-loop-holds : tie.Need-loop-init invariant-loop decreases-loop
+loop-holds : tie.Need-loop-k-init invariant-loop decreases-loop
 unfolding times_in
 loop-holds c = (omega arith, refl, refl, refl)
 
-loop-again : tie.Need-loop-preserved invariant-loop decreases-loop
+loop-again : tie.Need-loop-k-preserved invariant-loop decreases-loop
 unfolding times_in
 loop-again c =
-    let r = c.before in
-    let l = r.before.before.loop in
-    let s = r.before.before.before in
-    let back = to_z-of_z w64 c.part_of_lem.result (record { sfits = c.part_of_lem.type-inv }) in
-    let there = to_z-of_z w32 (get_or s.args.times.now l.k (pos 0)) (record { sfits = r.raw.given }) in (
+    let l = c.loop-k in
+    let back = to_z-of_z w64 c.part_of.result (record { sfits = c.part_of.type_inv }) in
+    let there = to_z-of_z w32 (get_or c.args.times.now l.k (pos 0)) (record { sfits = c.raw-1.given }) in (
       omega arith,
       l.invariant.1,
-      next_in time_in (part_of s.args.parts) l.table s.args.times.now l.k _ (pos 0) (omega arith) (omega arith) l.invariant.2
-          (ap time_in back ∙ c.part_of_lem.ensures ∙ ap (part_of s.args.parts) there),
+      next_in time_in (part_of c.args.parts) l.table c.args.times.now l.k _ (pos 0) (omega arith) (omega arith) l.invariant.2
+          (ap time_in back ∙ c.part_of.ensures ∙ ap (part_of c.args.parts) there),
       length-set l.table l.k _ ∙ l.invariant.3,
     )
 
 returns : tie.Need-returns invariant-loop decreases-loop
 returns c =
-    let l = c.before.loop in
-    let s = c.before.before.args in
+    let l = c.loop-k in
+    let s = c.args in
     let e : l.k ≡ length s.times.now = omega arith in
     record { is = (rw e at l.invariant.2) ∙ ap (map (part_of s.parts)) (take-length s.times.now) ∙ fused s.parts s.times.now; long = l.invariant.3 }
 
@@ -67,7 +65,7 @@ in_parts_spec =
     loop-holds
     (λ c. omega arith)
     (λ c. omega arith)
-    (λ c κs. c.before.before.before.requires.1)
+    (λ c κs. c.requires.1)
     (λ c. omega arith)
     (λ c. omega arith)
     (λ c. omega arith)

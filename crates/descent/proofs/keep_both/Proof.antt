@@ -14,37 +14,33 @@ use Rattle.descent.proofs.keep_both.Tie as tie
 ahead : {j k : Constraint} → Parts (j ∷ k ∷ []) (j ∷ []) (k ∷ [])
 ahead = record { is = refl }
 
-keep-one-requires : tie.Need-keep-one-requires
+keep-one-requires : tie.Need-keep_one-requires
 keep-one-requires c κs =
-    let p = c.before.requires in
+    let p = c.requires in
     record { taking = first_of ahead (toward_start p.taking refl); source = p.source; adds = p.adds; adds_other = p.adds_other }
 
-returns : tie.Need-returns
+returns : tie.Need-returns-then-not-keep_one
 returns c =
-    let k = c.before.before in
-    given_up ahead (toward_start k.before.before.requires.taking refl) k.keep_one.ensures c.if1.true
+    given_up ahead (toward_start c.requires.taking refl) c.keep_one.ensures c.if-not-keep_one.true-raw
 
 -- the first way is taken in
-halfway : (e : tie.Else1) →
-    let s = e.before.before.before.before.args in
+halfway : (e : tie.Else-not-keep_one) →
+    let s = e.args in
     let a = times_in s.table.now in
     let d = bounds_in s.zone.now in
     Toward s.n Stored (bounds_in s.part.now) (keep_both s.n a d s.a s.b)
-    (bounds_in e.before.before.keep_one.new.0) (keep_one s.n a d s.b s.a)
+    (bounds_in e.keep_one.new.part) (keep_one s.n a d s.b s.a)
 halfway e =
-    let k = e.before.before in
-    onward ahead (toward_start k.before.before.requires.taking refl) k.keep_one.ensures e.if1.false
+    onward ahead (toward_start e.requires.taking refl) e.keep_one.ensures e.if-not-keep_one.false-raw
 
-keep-one-requires-2 : tie.Need-keep-one-requires-2
+keep-one-requires-2 : tie.Need-keep_one-requires-2
 keep-one-requires-2 c κs =
-    let e = c.before in
-    let p = e.before.before.before.before.requires in
-    record { taking = (halfway e).taking; source = p.source; adds = p.adds_other; adds_other = p.adds }
+    let p = c.requires in
+    record { taking = (halfway c.before).taking; source = p.source; adds = p.adds_other; adds_other = p.adds }
 
-returns-2 : tie.Need-returns-2
+returns-2 : tie.Need-returns
 returns-2 c =
-    let k = c.before in
-    at_last (halfway k.before.before) k.keep-one2.ensures
+    at_last (halfway c.before.before.before) c.keep_one-2.ensures
 
 pub keep_both_spec : {M : Type 1} → statement M
 keep_both_spec =

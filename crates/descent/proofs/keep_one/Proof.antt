@@ -17,52 +17,43 @@ use borrow.Author.Rules.{rules}
 use Rattle.descent.proofs.keep_one.Statement.{statement}
 use Rattle.descent.proofs.keep_one.Tie as tie
 
-returns : tie.Need-returns
+returns : tie.Need-returns-in-Blank
 unfolding keeps plus constrain within
 returns c =
-    let x = c.before.before in
-    let e = sym x.bound_at.ensures.is ∙ ap as_bound c.enum_told.given.1 in
+    let e = sym c.bound_at-near.ensures.is ∙ ap as_bound c.in-Blank.is in
     rw e (kept refl)
 
-apart : (c : tie.After-chosen2) → nat_abs (c.before.chosen.result.0 -ℤ c.chosen2.result.0) ≤ Largest + Largest
-apart c = minus_small c.before.chosen.result.0 c.chosen2.result.0 c.before.chosen.ensures.small c.chosen2.ensures.small
+apart : (c : tie.After-chosen-2) → nat_abs (c.chosen.result.0 -ℤ c.chosen-2.result.0) ≤ Largest + Largest
+apart c = minus_small c.chosen.result.0 c.chosen-2.result.0 c.chosen.ensures.small c.chosen-2.ensures.small
 
-difference-requires : tie.Need-difference-requires
+difference-requires : tie.Need-difference-apart-requires
 difference-requires c κs = let h = apart c in omega arith
 
-near_small : (c : tie.After-difference) →
-    let x = c.before.before.before.before.before in
-    Small (Largest + (Largest + Largest)) (plus (as_bound x.bound_at.result) (as_bound c.difference.result))
+near_small : (c : tie.After-difference-apart) →
+    Small (Largest + (Largest + Largest)) (plus (as_bound c.bound_at-near.result) (as_bound c.difference-apart.result))
 near_small c =
-    let x = c.before.before.before.before.before in
-    let y = c.before in
-    rw c.difference.ensures (small_sum {C = Largest + Largest} x.bound_at.ensures.small (sized (apart y)))
+    rw c.difference-apart.ensures (small_sum {C = Largest + Largest} c.bound_at-near.ensures.small (sized (apart c.before)))
 
 plus-requires : tie.Need-plus-requires
 plus-requires c κs = small_mono (omega arith) (near_small c.before)
 
 limit : (c : tie.After-plus) →
-    let s = c.before.before.before.before.before.before.before.before.args in
+    let s = c.args in
     let added : Choice → ℤ = λ e. chosen s.n (times_in s.table.now) e.row e.column in
     as_bound c.plus.result ≡ plus (entry (suc s.n) (bounds_in s.zone.now) s.a.row s.b.row) (most (added s.b -ℤ added s.a))
 limit c =
-    let m = c.before.before in
-    let y = m.before in
-    let x = y.before.before.before.before in
-    let e = ap₂ ◌-ℤ◌ y.before.chosen.ensures.is y.chosen2.ensures.is in
-    c.plus.ensures ∙ ap₂ plus x.bound_at.ensures.is (m.difference.ensures ∙ ap most e)
+    let e = ap₂ ◌-ℤ◌ c.chosen.ensures.is c.chosen-2.ensures.is in
+    c.plus.ensures ∙ ap₂ plus c.bound_at-near.ensures.is (c.difference-apart.ensures ∙ ap most e)
 
-take-in-requires : tie.Need-take-in-requires
+take-in-requires : tie.Need-take_in-requires
 unfolding keeps
 take-in-requires c κs =
-    let s = c.before.before.before.before.before.before.before.before in
-    record { taking = rw (limit c) s.requires.taking; small = rw c.plus.ensures (small_mono (omega arith) (near_small c.before.before)) }
+    record { taking = rw (limit c) c.requires.taking; small = rw c.plus.ensures (small_mono (omega arith) (near_small c.before.before)) }
 
-returns-2 : tie.Need-returns-2
+returns-2 : tie.Need-returns
 unfolding keeps
 returns-2 c =
-    let q = c.before in
-    rw (limit q.before) at q.take_in.ensures
+    rw (limit c.before.before) at c.take_in.ensures
 
 pub keep_one_spec : {M : Type 1} → statement M
 keep_one_spec =

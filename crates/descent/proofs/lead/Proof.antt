@@ -23,19 +23,18 @@ less_fits z h = fits (omega (ints, abs_ud z, sub_ud z (pos 1), pos_ud 1))
 less_small : (z : ℤ) → nat_abs z ≤ Largest → nat_abs (z -ℤ pos 1) ≤ Largest + 1
 less_small z h = omega (ints, abs_ud z, abs_ud (z -ℤ pos 1), sub_ud z (pos 1), pos_ud 1)
 
-sub-t5 : tie.Need-overflow-sub-t5
-sub-t5 c = let s = c.before.before.before in rw (told s.args.c.0 s.requires) (less_fits s.args.c.0 s.requires)
+sub-t5 : tie.Need-overflow_sub-result
+sub-t5 c = rw (told c.args.c.0 c.requires) (less_fits c.args.c.0 c.requires)
 
-returns : tie.Need-returns
+returns : tie.Need-returns-then-j-s
 unfolding lead
 returns c =
-    let s = c.before.before.before in
-    let z = s.args.c.0 in
-    rw (told z s.requires, to_z-of_z w64 _ (less_fits z s.requires), lt-ltb _ _ c.before.before.if1.true) (refl, less_small z s.requires)
+    let z = c.args.c.0 in
+    rw (told z c.requires, to_z-of_z w64 _ (less_fits z c.requires), lt-ltb _ _ c.if-j-s.true) (refl, less_small z c.requires)
 
-returns-2 : tie.Need-returns-2
+returns-2 : tie.Need-returns
 unfolding lead
-returns-2 c = let h = c.before.requires in rw (le-ltb _ _ c.if1.false) (refl, omega arith)
+returns-2 c = let h = c.requires in rw (le-ltb _ _ c.if-j-s.false) (refl, omega arith)
 
 pub lead_spec : {M : Type 1} → statement M
 lead_spec = tie.close (tie.spec sub-t5 returns returns-2)

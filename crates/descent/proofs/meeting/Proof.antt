@@ -7,10 +7,10 @@ use Rattle.descent.proofs.meeting.Statement.{statement}
 use Rattle.descent.proofs.meeting.Tie as tie
 
 descend-requires : tie.Need-descend-requires
-descend-requires c κs = let s = c.before.before in meeting_ready s.requires _ refl (omega (arith, s.requires.table.departures.few))
+descend-requires c κs = meeting_ready c.requires _ refl (omega (arith, c.requires.table.departures.few))
 
 returns : tie.Need-returns
-returns c = meeting_ends c.before.before.before.before.before.requires _ refl c.before.before.descend.ensures
+returns c = meeting_ends c.requires _ refl c.descend.ensures
 
 pub meeting_spec : {M : Type 1} → statement M
 meeting_spec = tie.close (tie.spec (λ c. search rules) descend-requires (λ c. search rules) returns)

@@ -16,9 +16,9 @@ use Rattle.descent.proofs.Numbers.{product_fits, product_stored}
 use Rattle.descent.proofs.part_of.Statement.{statement}
 use Rattle.descent.proofs.part_of.Tie as tie
 
-returns : tie.Need-returns
+returns : tie.Need-returns-then-raw-eq-NONE
 unfolding time_in scale_time Memory.time_in
-returns c = rw (test_none c.before.args.raw c.before.ranges.raw c.if1.true)
+returns c = rw (test_none c.args.raw c.ranges.raw c.if-raw-eq-NONE.true)
 
 -- the number and the parts, read back
 told : (s : tie.Start) → to_z w32 (of_z w32 s.args.raw) ≡ s.args.raw
@@ -33,24 +33,23 @@ wider s = wide s.args.raw (let h = small s in omega arith)
 many : (s : tie.Start) → to_z w64 s.args.parts ≡ pos s.args.parts
 many s = to_z_pos w64 s.args.parts (let h = s.requires in omega arith)
 
-cast-result : tie.Need-overflow-cast-result
-cast-result c = let s = c.before in rw (told s) (wider s)
+cast-result : tie.Need-overflow_cast-result
+cast-result c = rw (told c.before) (wider c.before)
 
-mul-result : tie.Need-overflow-mul-result
-mul-result c = let s = c.before in rw (told s, to_z-of_z w64 _ (wider s), many s) (product_fits s.args.raw s.args.parts (small s) s.requires)
+mul-result : tie.Need-overflow_mul-result
+mul-result c = rw (told c.before, to_z-of_z w64 _ (wider c.before), many c.before) (product_fits c.args.raw c.args.parts (small c.before) c.requires)
 
-returns-2 : tie.Need-returns-2
+returns-2 : tie.Need-returns
 unfolding scale_time Memory.time_in
 returns-2 c =
-    let s = c.before in
     rw (
-      told s,
-      to_z-of_z w64 _ (wider s),
-      many s,
-      to_z-of_z w64 _ (product_fits s.args.raw s.args.parts (small s) s.requires),
-      test_other s.args.raw c.if1.false,
+      told c.before,
+      to_z-of_z w64 _ (wider c.before),
+      many c.before,
+      to_z-of_z w64 _ (product_fits c.args.raw c.args.parts (small c.before) c.requires),
+      test_other c.args.raw c.if-raw-eq-NONE.false,
     )
-    (product_stored s.args.raw s.args.parts (small s) s.requires)
+    (product_stored c.args.raw c.args.parts (small c.before) c.requires)
 
 pub part_of_spec : {M : Type 1} → statement M
 part_of_spec = tie.close (tie.spec returns cast-result (λ c. search rules) mul-result returns-2)

@@ -6,7 +6,7 @@ use Rattle.model.proofs.Stored.{has_time}
 use Rattle.lists.proofs.holds_time.Statement.{statement}
 use Rattle.lists.proofs.holds_time.Tie as tie
 
-time-at-requires : tie.Need-time-at-requires
+time-at-requires : tie.Need-time_at-requires
 time-at-requires c κs = search rules
 
 returns : tie.Need-returns

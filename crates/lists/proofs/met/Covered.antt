@@ -35,6 +35,7 @@ use Rattle.lists.proofs.met.Seen.{unmet_none, free_other}
 
 -- ---- what is in a list and put to it again
 not_both : {X : Type 0} {P : X → Type 0} {xs : List X} → Every (λ x. P x → ⊥) xs → Some P xs → ⊥
+not_both done p = elim p [ ]
 not_both (both h hs) (here p) = h p
 not_both (both h hs) (there q) = not_both hs q
 

@@ -17,79 +17,68 @@ use Rattle.lists.proofs.Starting.{row_one, none_noted, preimages}
 use Rattle.lists.proofs.pull_back.Statement.{statement}
 use Rattle.lists.proofs.pull_back.Tie as tie
 
-zone-size-requires : tie.Need-zone-size-requires
+zone-size-requires : tie.Need-zone_size-size-requires
 zone-size-requires c κs = search rules
 
 -- the table has room for the first set
-inside : (c : tie.After-zone-size) → c.zone_size_lem.result ≤ length c.before.args.seen.now
-inside c = let s = c.before in omega (arith, set_room s.args.n, c.zone_size_lem.ensures, s.requires.seen_size)
+inside : (c : tie.After-zone_size-size) → c.zone_size-size.result ≤ length c.args.seen.now
+inside c = omega (arith, set_room c.args.n, c.zone_size-size.ensures, c.requires.seen_size)
 
-slice-relend-prefix-everything : tie.Need-slice-relend-prefix-everything
+slice-relend-prefix-everything : tie.Need-slice_bounds-everything-end
 slice-relend-prefix-everything c = inside c
 
-slice-aggregate-everything : tie.Need-slice-aggregate-everything
+slice-aggregate-everything : tie.Need-slice_bounds-everything-end-2
 slice-aggregate-everything c = sym (front_long _ _ (inside c.before))
 
 everything-requires : tie.Need-everything-requires
 everything-requires c κs =
-    let z = c.before in
-    front_zone _ _ (inside z) z.before.requires.sources.table.departures z.zone_size_lem.ensures
+    front_zone _ _ (inside c.before) c.requires.sources.table.departures c.zone_size-size.ensures
 
 -- the table with that set
 long : (c : tie.After-everything) →
-    let z = c.before.before in
-    let a = z.before.args in
-    size_seen a.n ≤ length (c.everything.new.0 ++ drop z.zone_size_lem.result a.seen.now)
+    let a = c.args in
+    size_seen a.n ≤ length (c.everything.new.zone ++ drop c.zone_size-size.result a.seen.now)
 long c =
-    let z = c.before.before in
-    rw (length_front z.before.args.seen.now c.everything.new.0 z.zone_size_lem.result c.everything.auto.0) z.before.requires.seen_size
+    rw (length_front c.args.seen.now c.everything.new.zone c.zone_size-size.result c.everything.auto.zone) c.requires.seen_size
 
 first : (c : tie.After-everything) →
-    let z = c.before.before in
-    let a = z.before.args in
-    zone_at (zone_size a.n) (c.everything.new.0 ++ drop z.zone_size_lem.result a.seen.now) 0 ≡ everything (suc a.n)
+    let a = c.args in
+    zone_at (zone_size a.n) (c.everything.new.zone ++ drop c.zone_size-size.result a.seen.now) 0 ≡ everything (suc a.n)
 first c =
-    let z = c.before.before in
-    rw (← z.zone_size_lem.ensures) (front_at _ _ (inside z) _ c.everything.auto.0 ∙ c.everything.ensures)
+    rw (← c.zone_size-size.ensures) (front_at _ _ (inside c.before.before) _ c.everything.auto.zone ∙ c.everything.ensures)
 
 -- the table of needs has room
-table_room : (c : tie.After-zone-size) → c.zone_size_lem.result ≤ most_numbers
-table_room c = omega (arith, zone_fits c.before.requires.sources.table.departures, c.zone_size_lem.ensures)
+table_room : (c : tie.After-zone_size-size) → c.zone_size-size.result ≤ most_numbers
+table_room c = omega (arith, zone_fits c.requires.sources.table.departures, c.zone_size-size.ensures)
 
 needs-requires : tie.Need-needs-requires
 needs-requires c κs =
-    let z = c.before.before.before.before in
-    let p = z.before.requires in
-    (p.sources.table, p.source, front_zone _ _ (table_room z) p.sources.table.departures z.zone_size_lem.ensures)
+    let p = c.requires in
+    (p.sources.table, p.source, front_zone _ _ (table_room c.before.before.before.before) p.sources.table.departures c.zone_size-size.ensures)
 
-tabled : (c : tie.After-needs) → let a = c.before.before.before.before.before.before.args in
-    Tabled a.n a.times.now a.zone.now c.needs.new.0
+tabled : (c : tie.After-needs) → let a = c.args in
+    Tabled a.n a.times.now a.zone.now c.needs.new.table
 tabled c =
-    let z = c.before.before.before.before.before in
-    let p = z.before.requires in
+    let p = c.requires in
     record {
-      inside = record { few = p.source.few; size = c.needs.auto.0 ∙ front_long _ _ (table_room z) ∙ z.zone_size_lem.ensures };
+      inside = record { few = p.source.few; size = c.needs.auto.table ∙ front_long _ _ (table_room c.before.before.before.before.before) ∙ c.zone_size-size.ensures };
       is = c.needs.ensures;
     }
 
 select-requires : tie.Need-select-requires
 select-requires c κs =
-    let d = c.before.before.before.before.before.before in
-    let e = d.before.before.before in
-    let p = e.before.before.before.requires in
+    let p = c.requires in
     record {
       room = p.room;
-      tabled = rw (front_is _ _ (table_room e.before.before) d.needs.new.0 d.needs.auto.0) (tabled d);
-      ready = row_one p.sources p.source _ (long e) (first e);
-      noted = none_noted p.sources p.source _ (long e) (first e);
+      tabled = rw (front_is _ _ (table_room c.before.before.before.before.before.before.before.before.before.before.before) c.needs.new.table c.needs.auto.table) (tabled c.before.before.before.before.before.before);
+      ready = row_one p.sources p.source _ (long c.before.before.before.before.before.before.before.before.before) (first c.before.before.before.before.before.before.before.before.before);
+      noted = none_noted p.sources p.source _ (long c.before.before.before.before.before.before.before.before.before) (first c.before.before.before.before.before.before.before.before.before);
     }
 
 returns : tie.Need-returns
 returns c =
-    let s = c.before.before.before.before in
-    let e = s.before.before.before.before.before.before.before.before.before.before in
-    let p = e.before.before.before.requires in
-    rw (preimages p.sources p.source _ (long e) (first e)) at s.select.ensures.held
+    let p = c.requires in
+    rw (preimages p.sources p.source _ (long c.before.before.before.before.before.before.before.before.before.before.before.before.before.before) (first c.before.before.before.before.before.before.before.before.before.before.before.before.before.before)) at c.select.ensures.held
 
 pub pull_back_spec : {M : Type 1} → statement M
 pull_back_spec =
@@ -102,10 +91,9 @@ pull_back_spec =
     (λ c. table_room c.before.before.before)
     (λ c. sym (front_long _ _ (table_room c.before.before.before.before)))
     needs-requires
-    (λ c. let d = c.before.before in front_room _ _ (table_room d.before.before.before.before.before) d.needs.new.0 d.needs.auto.0)
+    (λ c. front_room _ _ (table_room c.before.before.before.before.before.before.before) c.needs.new.table c.needs.auto.table)
     (λ c.
-    let d = c.before.before.before in
-    sym (front_long _ _ (front_room _ _ (table_room d.before.before.before.before.before) d.needs.new.0 d.needs.auto.0)))
+    sym (front_long _ _ (front_room _ _ (table_room c.before.before.before.before.before.before.before.before) c.needs.new.table c.needs.auto.table)))
     (λ c. search rules)
     (λ c. search rules)
     select-requires

@@ -11,62 +11,55 @@ use Rattle.lists.proofs.Held.{held_beside, held_next}
 use Rattle.lists.proofs.put_last.Statement.{statement}
 use Rattle.lists.proofs.put_last.Tie as tie
 
-beside-requires : tie.Need-beside-requires
+beside-requires : tie.Need-beside-full-requires
 beside-requires c κs =
-    let b = c.before.before.before.before.before in
-    (b.requires.column, omega (arith, mul-le-mul_right (zone_size b.args.n) b.requires.room.inside, b.requires.room.long))
+    (c.requires.column, omega (arith, mul-le-mul_right (zone_size c.args.n) c.requires.room.inside, c.requires.room.long))
 
-same_length : tie.Need-same-length
+same_length : tie.Need-shape_of-list-then-count-capacity
 same_length c = search rules
 
-same-length-2 : tie.Need-same-length-2
+same-length-2 : tie.Need-shape_of-seen-then-count-capacity
 same-length-2 c = search rules
 
-returns : tie.Need-returns
+returns : tie.Need-returns-then-count-capacity
 returns c =
-    let t = c.before in
-    let full = t.before.before.before in
-    let b = full.before.before.before in
-    record { held = held_beside b.requires.room _ t.beside.ensures full.if1.true; elsewhere = t.beside.ensures.elsewhere }
+    record { held = held_beside c.requires.room _ c.beside-full.ensures c.if-count-capacity.true; elsewhere = c.beside-full.ensures.elsewhere }
 
-next-zone-requires : tie.Need-next-zone-requires
+next-zone-requires : tie.Need-next_zone-requires
 next-zone-requires c κs =
-    let e = c.before.before in
-    let b = e.before.before.before in
-    let a = b.args in
-    let more : a.count < a.capacity = omega (arith, b.requires.room.inside, e.if1.false) in
-    (b.requires.column, omega (arith, mul-le-mul_right (zone_size a.n) more, suc-mul a.count (zone_size a.n), b.requires.room.long))
+    let a = c.args in
+    let more : a.count < a.capacity = omega (arith, c.requires.room.inside, c.if-count-capacity.false) in
+    (c.requires.column, omega (arith, mul-le-mul_right (zone_size a.n) more, suc-mul a.count (zone_size a.n), c.requires.room.long))
 
 -- the list with what was built there
-next : (c : tie.After-next-zone) →
-    let a = c.before.before.before.before.before.before.args in
+next : (c : tie.After-next_zone) →
+    let a = c.args in
     PutLast a.n a.capacity a.count (left_of a.n a.times.now a.zone.now a.seen.now a.counts.now a.cols.now a.n a.s)
     a.list.now a.seen.now a.counts.now
-    (record { count = cond c.next-zone.result (a.count + 1) a.count; full = false }) c.next-zone.new.0 a.seen.now
+    (record { count = cond c.next_zone.result (a.count + 1) a.count; full = false }) c.next_zone.new.list a.seen.now
 next c =
-    let e = c.before.before.before in
-    record { held = held_next e.before.before.before.requires.room _ c.next-zone.ensures e.if1.false; elsewhere = else_refl }
+    record { held = held_next c.requires.room _ c.next_zone.ensures c.if-count-capacity.false; elsewhere = else_refl }
 
-add-t22 : tie.Need-overflow-add-t22
+add-t22 : tie.Need-overflow_add-result
 add-t22 c = search rules
 
-same-length-3 : tie.Need-same-length-3
+same-length-3 : tie.Need-shape_of-list-then-next_zone
 same-length-3 c = search rules
 
-same-length-4 : tie.Need-same-length-4
+same-length-4 : tie.Need-shape_of-seen-then-next_zone
 same-length-4 c = search rules
 
-returns-2 : tie.Need-returns-2
-returns-2 c = rw c.if2.true at (next c.before.before)
+returns-2 : tie.Need-returns-then-next_zone
+returns-2 c = rw c.if-next_zone.true at (next c.before.before)
 
-same-length-5 : tie.Need-same-length-5
+same-length-5 : tie.Need-shape_of-list
 same-length-5 c = search rules
 
-same-length-6 : tie.Need-same-length-6
+same-length-6 : tie.Need-shape_of-seen
 same-length-6 c = search rules
 
-returns-3 : tie.Need-returns-3
-returns-3 c = rw c.if2.false at (next c.before.before)
+returns-3 : tie.Need-returns
+returns-3 c = rw c.if-next_zone.false at (next c.before.before)
 
 pub put_last_spec : {M : Type 1} → statement M
 put_last_spec =

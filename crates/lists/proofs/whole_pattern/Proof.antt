@@ -19,59 +19,46 @@ use Rattle.lists.proofs.whole_pattern.Tie as tie
 departures : (c : tie.Start) → Departures c.args.n
 departures c = c.requires.meets.limits.departures
 
-first-list-requires : tie.Need-first-list-requires
+first-list-requires : tie.Need-first_list-requires
 first-list-requires c κs =
-    let s = c.before.before in
-    (s.requires.meets, rw length-replicate (zone_fits (departures s)))
+    (c.requires.meets, rw length-replicate (zone_fits (departures c.before.before)))
 
 -- the array is as long as it was
-long : (c : tie.After-first-list) → length c.first-list.new.0 ≡ most_numbers
-long c = c.first-list.auto.0 ∙ simp length-replicate
+long : (c : tie.After-first_list) → length c.first_list.new.work ≡ most_numbers
+long c = c.first_list.auto.work ∙ simp length-replicate
 
-returns : tie.Need-returns
+returns : tie.Need-returns-then-first_list-eq0
 returns c =
-    let f = c.before.before in
     record {
-      none_left = λ e. zone_none f.first-list.ensures c.if1.true;
+      none_left = λ e. zone_none c.first_list.ensures c.if-first_list-eq0.true;
       some_left = λ e. impossible cc;
       long = simp length-replicate;
     }
 
-array-share-prefix-zone : tie.Need-array-share-prefix-zone
+array-share-prefix-zone : tie.Need-slice_bounds-zone-end
 array-share-prefix-zone c =
-    let f = c.before.before in
-    let z = f.before.before in
-    part_room (departures z.before) z.zone_size_lem.ensures f.first-list.new.0 (long f)
+    part_room (departures c.before.before.before.before.before) c.zone_size-size.ensures c.first_list.new.work (long c.before.before)
 
-slice-aggregate-whole-zone : tie.Need-slice-aggregate-whole-zone
+slice-aggregate-whole-zone : tie.Need-slice_bounds-whole_zone-end
 slice-aggregate-whole-zone c =
-    let f = c.before.before.before in
-    let z = f.before.before in
-    sym (part_long (departures z.before) z.zone_size_lem.ensures f.first-list.new.0 (long f))
+    sym (part_long (departures c.before.before.before.before.before.before) c.zone_size-size.ensures c.first_list.new.work (long c.before.before.before))
 
 -- the zone of the pattern
-made : (c : tie.Else1) →
-    let f = c.before.before in
-    let z = f.before.before in
-    let a = z.before.args in
-    tighten (suc a.n) (pattern_constraints a.n (bounds_in a.pattern.now)) ≡ some (bounds_in (take z.zone_size_lem.result f.first-list.new.0))
+made : (c : tie.Else-first_list-eq0) →
+    let a = c.args in
+    tighten (suc a.n) (pattern_constraints a.n (bounds_in a.pattern.now)) ≡ some (bounds_in (take c.zone_size-size.result c.first_list.new.work))
 made c =
-    let f = c.before.before in
-    let z = f.before.before in
-    zone_some f.first-list.ensures c.if1.false
-    ∙ ap (λ numbers. some (bounds_in numbers)) (sym (part_is (departures z.before) z.zone_size_lem.ensures f.first-list.new.0 (long f)))
+    zone_some c.first_list.ensures c.if-first_list-eq0.false
+    ∙ ap (λ numbers. some (bounds_in numbers)) (sym (part_is (departures c.before.before.before.before.before) c.zone_size-size.ensures c.first_list.new.work (long c.before.before)))
 
-whole-zone-requires : tie.Need-whole-zone-requires
+whole-zone-requires : tie.Need-whole_zone-wholes-requires
 whole-zone-requires c κs =
-    let e = c.before in
-    let f = e.before.before in
-    let z = f.before.before in
-    zone_ready z.before.requires _ (made e)
-    (part_long (departures z.before) z.zone_size_lem.ensures f.first-list.new.0 (long f) ∙ z.zone_size_lem.ensures)
+    zone_ready c.requires _ (made c.before)
+    (part_long (departures c.before.before.before.before.before.before) c.zone_size-size.ensures c.first_list.new.work (long c.before.before.before) ∙ c.zone_size-size.ensures)
 
-returns-2 : tie.Need-returns-2
+returns-2 : tie.Need-returns
 returns-2 c =
-    let w = c.whole_zone.ensures in
+    let w = c.whole_zone-wholes.ensures in
     record {
       none_left = λ e. impossible cc;
       some_left = λ e. record { zone = _; is = made c.before.before; whole = w.is };

@@ -88,7 +88,7 @@ returns c =
     let e : l.column ≡ a.n = omega arith in
     let regular = regular_parts a.factor a.n _ c.requires.0.limits.regular in
     let is = next_is a.n _ regular (clocked (times_of a.n a.x)) (a.row + 1) (omega arith) (omega arith) in
-    ap seconds (value_is l.auto _ ((rw e at l.invariant.1) ∙ is))
+    ap seconds (value_is l.kept _ ((rw e at l.invariant.1) ∙ is))
 
 pub row_largest_spec : {M : Type 1} → statement M
 row_largest_spec =

@@ -30,7 +30,7 @@ zone-size-requires : tie.Need-zone-size-requires invariant-loop decreases-loop
 zone-size-requires c κs = omega (arith, c.before.requires.0.table.departures.few)
 
 mul-half : tie.Need-overflow-mul-half invariant-loop decreases-loop
-mul-half c = rw c.zone_size_lem.ensures (let s = c.before.before in omega (arith, s.requires.0.long, s.well-formed.0))
+mul-half c = rw c.zone_size_lem.ensures (let s = c.before.before in omega (arith, s.requires.0.long, s.well_formed.0))
 
 first-list-requires : tie.Need-first-list-requires invariant-loop decreases-loop
 first-list-requires c κs = let q = c.before.before.before.requires.0 in (target_meets q, zone_room q)

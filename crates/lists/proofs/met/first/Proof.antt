@@ -6,11 +6,11 @@ use Rattle.lists.proofs.Lengths.{sets_few, places_few}
 use Rattle.lists.proofs.met.first.Statement.{statement}
 use Rattle.lists.proofs.met.first.Tie as tie
 
-add-result : tie.Need-overflow-add-result
-add-result c = omega (arith, c.sets.ensures, sets_few c.before.args.n)
+add-result : tie.Need-overflow_add-result
+add-result c = omega (arith, c.sets.ensures, sets_few c.args.n)
 
-mul-result : tie.Need-overflow-mul-result
-mul-result c = let s = c.before in rw (c.sets.ensures, add-one) (omega (arith, places_few s.args.n s.args.i s.requires))
+mul-result : tie.Need-overflow_mul-result
+mul-result c = rw (c.sets.ensures, add-one) (omega (arith, places_few c.args.n c.args.i c.requires))
 
 returns : tie.Need-returns
 returns c = rw (c.sets.ensures, add-one)

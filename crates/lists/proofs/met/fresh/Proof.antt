@@ -12,30 +12,21 @@ use Rattle.lists.proofs.met.Growing.{here_fits}
 use Rattle.lists.proofs.met.fresh.Statement.{statement}
 use Rattle.lists.proofs.met.fresh.Tie as tie
 
-returns : tie.Need-returns
-returns c = let g = c.before.before in placed_none _ g.grow.ensures c.if1.true
+returns : tie.Need-returns-then-not-grow
+returns c = placed_none _ c.grow.ensures c.if-not-grow.true-raw
 
-has-at-requires : tie.Need-has-at-requires
+has-at-requires : tie.Need-has_at-requires
 has-at-requires c κs =
-    let f = c.before.before in
-    let z = f.before in
-    let g = z.before.before.before in
-    let inside = here_fits g.before.before.before.before.requires.ready in
-    rw (z.zone_size_lem.ensures, f.free.ensures, c.first.ensures, g.grow.auto.0) (some_numbers _, omega arith, omega arith, inside)
+    let inside = here_fits c.requires.ready in
+    rw (c.zone_size-size.ensures, c.free-here.ensures, c.first.ensures, c.grow.auto.seen) (some_numbers _, omega arith, omega arith, inside)
 
-returns-2 : tie.Need-returns-2
+returns-2 : tie.Need-returns
 returns-2 c =
-    let h = c.before in
-    let f = h.before.before in
-    let z = f.before in
-    let e = z.before in
-    let g = e.before.before in
-    let b = g.before.before.before.before in
-    let a = b.args in
+    let a = c.args in
     let count : free_at a.n a.counts.now a.i - a.i * places_met a.n ≡ get_or a.counts.now a.i 0 = omega arith in
-    let same = met_same b.requires.ready.tables a.i g.grow.ensures.elsewhere in
-    placed_some _ g.grow.ensures e.if1.false c.has-at.result
-    (rw (z.zone_size_lem.ensures, f.free.ensures, h.first.ensures, count, same) at c.has-at.ensures)
+    let same = met_same c.requires.ready.tables a.i c.grow.ensures.elsewhere in
+    placed_some _ c.grow.ensures c.if-not-grow.false-raw c.has_at.result
+    (rw (c.zone_size-size.ensures, c.free-here.ensures, c.first.ensures, count, same) at c.has_at.ensures)
 
 pub fresh_spec : {M : Type 1} → statement M
 fresh_spec =

@@ -11,60 +11,50 @@ use Rattle.lists.proofs.met.Growing.{here_fits, parent_before, copied_else, copi
 use Rattle.lists.proofs.met.grow.Statement.{statement}
 use Rattle.lists.proofs.met.grow.Tie as tie
 
-zone-size-requires : tie.Need-zone-size-requires
+zone-size-requires : tie.Need-zone_size-size-requires
 zone-size-requires c κs = search rules
 
-sub-free : tie.Need-overflow-sub-free
+sub-free : tie.Need-overflow_sub-i
 sub-free c = search rules
 
-free-requires : tie.Need-free-requires
+free-requires : tie.Need-free-parent-requires
 free-requires c κs = search rules
 
-free-requires-2 : tie.Need-free-requires-2
+free-requires-2 : tie.Need-free-here-requires
 free-requires-2 c κs = search rules
 
 copy-requires : tie.Need-copy-requires
 copy-requires c κs =
-    let f = c.before in
-    let z = f.before.before in
-    let u = z.before.before.before.requires.ready in
-    rw (z.zone_size_lem.ensures, f.before.free.ensures, f.free2.ensures) (parent_before u, here_fits u)
+    let u = c.requires.ready in
+    rw (c.zone_size-size.ensures, c.free-parent.ensures, c.free-here.ensures) (parent_before u, here_fits u)
 
 -- the copy
 copied : (c : tie.After-copy) →
-    let a = c.before.before.before.before.before.before.before.args in
+    let a = c.args in
     let here = free_at a.n a.counts.now a.i in
     let size = zone_size a.n in
-    c.copy.new.0 ≡ paste a.seen.now (here * size) (numbers_at size a.seen.now (free_at a.n a.counts.now (a.i - 1))) size
+    c.copy.new.list ≡ paste a.seen.now (here * size) (numbers_at size a.seen.now (free_at a.n a.counts.now (a.i - 1))) size
 copied c =
-    let f = c.before.before in
-    rw (f.before.before.zone_size_lem.ensures, f.before.free.ensures, f.free2.ensures) at c.copy.ensures
+    rw (c.zone_size-size.ensures, c.free-parent.ensures, c.free-here.ensures) at c.copy.ensures
 
-add-at-requires : tie.Need-add-at-requires
+add-at-requires : tie.Need-add_at-requires
 add-at-requires c κs =
-    let k = c.before.before in
-    let f = k.before.before in
-    let b = f.before.before.before.before.before in
-    let u = b.requires.ready in
-    let here = free_at b.args.n b.args.counts.now b.args.i in
-    rw f.free2.ensures
-    (add_ready u here (rw k.copy.auto.0 (here_fits u)) (rw (copied k) (copied_at u b.args.seen.now here (here_fits u))) b.requires.column)
+    let u = c.requires.ready in
+    let here = free_at c.args.n c.args.counts.now c.args.i in
+    rw c.free-here.ensures
+    (add_ready u here (rw c.copy.auto.list (here_fits u)) (rw (copied c.before.before) (copied_at u c.args.seen.now here (here_fits u))) c.requires.column)
 
-same_length : tie.Need-same-length
+same_length : tie.Need-shape_of-seen
 same_length c = search rules
 
 returns : tie.Need-returns
 returns c =
-    let t = c.before in
-    let k = t.before.before.before in
-    let f = k.before.before in
-    let b = f.before.before.before.before.before in
-    let u = b.requires.ready in
-    let here = free_at b.args.n b.args.counts.now b.args.i in
-    let at_place = rw f.free2.ensures at t.add_at.ensures in
-    let there = rw (← (copied k)) at (copied_at u b.args.seen.now here (here_fits u)) in
+    let u = c.requires.ready in
+    let here = free_at c.args.n c.args.counts.now c.args.i in
+    let at_place = rw c.free-here.ensures at c.add_at.ensures in
+    let there = rw (← (copied c.before.before.before.before)) at (copied_at u c.args.seen.now here (here_fits u)) in
     record {
-      elsewhere = else_trans (rw (copied k) (copied_else u b.args.seen.now here (here_fits u))) at_place.elsewhere;
+      elsewhere = else_trans (rw (copied c.before.before.before.before) (copied_else u c.args.seen.now here (here_fits u))) at_place.elsewhere;
       left = rw there at at_place.left;
     }
 

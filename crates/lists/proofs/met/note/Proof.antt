@@ -5,13 +5,13 @@ use Rattle.lists.specs.Met.{noted_in}
 use Rattle.lists.proofs.met.note.Statement.{statement}
 use Rattle.lists.proofs.met.note.Tie as tie
 
-returns : tie.Need-returns
+returns : tie.Need-returns-then-count-sets
 unfolding noted_in
-returns c = let s = c.before in rw (← s.sets.ensures, lt-ltb _ _ c.if1.true)
+returns c = rw (← c.sets.ensures, lt-ltb _ _ c.if-count-sets.true)
 
-returns-2 : tie.Need-returns-2
+returns-2 : tie.Need-returns-else-count-sets
 unfolding noted_in
-returns-2 c = let s = c.before in rw (← s.sets.ensures, le-ltb _ _ c.if1.false)
+returns-2 c = rw (← c.sets.ensures, le-ltb _ _ c.if-count-sets.false)
 
 pub note_spec : {M : Type 1} → statement M
 note_spec =

@@ -4,13 +4,13 @@ use Rattle.lists.specs.Lists.{sets_met}
 use Rattle.lists.proofs.met.sets.Statement.{statement}
 use Rattle.lists.proofs.met.sets.Tie as tie
 
-returns : tie.Need-returns
+returns : tie.Need-returns-then-n-gt-MIDDLE
 unfolding sets_met
-returns c = rw (lt-ltb _ _ c.if1.true)
+returns c = rw (lt-ltb _ _ c.if-n-gt-MIDDLE.true)
 
-returns-2 : tie.Need-returns-2
+returns-2 : tie.Need-returns-else-n-gt-MIDDLE
 unfolding sets_met
-returns-2 c = rw (le-ltb _ _ c.if1.false)
+returns-2 c = rw (le-ltb _ _ c.if-n-gt-MIDDLE.false)
 
 pub sets_spec : {M : Type 1} → statement M
 sets_spec = tie.close (tie.spec returns returns-2)

@@ -13,31 +13,28 @@ use Rattle.lists.proofs.met.shut.Statement.{statement}
 use Rattle.lists.proofs.met.shut.Tie as tie
 
 inside : (c : tie.After-free) →
-    c.free.result * c.before.zone_size_lem.result + c.before.zone_size_lem.result ≤ length c.before.before.before.before.args.seen.now
+    c.free.result * c.zone_size-size.result + c.zone_size-size.result ≤ length c.args.seen.now
 inside c =
-    let p = c.before.before.before.before.requires in
-    rw (c.before.zone_size_lem.ensures, c.free.ensures) (free_fits p.tables p.row)
+    let p = c.requires in
+    rw (c.zone_size-size.ensures, c.free.ensures) (free_fits p.tables p.row)
 
 shut-requires : tie.Need-shut-requires
 shut-requires c κs =
-    let f = c.before.before in
-    let z = f.before in
-    let b = z.before.before.before in
-    let p = b.requires in
-    let size = z.zone_size_lem.result in
-    let seen = b.args.seen.now in (
+    let p = c.requires in
+    let size = c.zone_size-size.result in
+    let seen = c.args.seen.now in (
       record {
         table = p.times_in_lem;
         set = record {
           few = p.table_in_lem.few;
-          size = rw (lent_at size f.free.result seen) (length_numbers size seen f.free.result (inside f)) ∙ z.zone_size_lem.ensures;
+          size = rw (lent_at size c.free.result seen) (length_numbers size seen c.free.result (inside c.before)) ∙ c.zone_size-size.ensures;
         };
         needs_in = p.table_in_lem;
       },
-      rw (add-one b.args.i) (record {
+      rw (add-one c.args.i) (record {
         from_one = omega arith;
         to_end = omega (arith, p.row);
-        long = length-take-le (suc b.args.i) b.args.cols.now p.long;
+        long = length-take-le (suc c.args.i) c.args.cols.now p.long;
         columns = p.columns;
       }),
     )
@@ -45,11 +42,8 @@ shut-requires c κs =
 returns : tie.Need-returns
 unfolding zone_at
 returns c t =
-    let f = c.before.before.before in
-    let z = f.before in
-    let b = z.before.before.before in
-    let said = rw (lent_at z.zone_size_lem.result f.free.result b.args.seen.now, add-one b.args.i) at (c.shut.ensures t) in
-    rw (← z.zone_size_lem.ensures, ← f.free.ensures) said
+    let said = rw (lent_at c.zone_size-size.result c.free.result c.args.seen.now, add-one c.args.i) at (c.shut.ensures t) in
+    rw (← c.zone_size-size.ensures, ← c.free.ensures) said
 
 pub shut_spec : {M : Type 1} → statement M
 shut_spec =
@@ -64,7 +58,7 @@ shut_spec =
     (λ c. search rules)
     (λ c. inside c)
     (λ c. search rules)
-    (λ c. let b = c.before.before.before.before.before.before in sym (length-take-le (b.args.i + 1) b.args.cols.now (omega (arith, b.requires.long))))
+    (λ c. sym (length-take-le (c.args.i + 1) c.args.cols.now (omega (arith, c.requires.long))))
     (λ c. search rules)
     shut-requires
     returns)

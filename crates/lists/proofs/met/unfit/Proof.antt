@@ -12,25 +12,22 @@ use Rattle.lists.proofs.met.unfit.Statement.{statement}
 use Rattle.lists.proofs.met.unfit.Tie as tie
 
 inside : (c : tie.After-free) →
-    c.free.result * c.before.zone_size_lem.result + c.before.zone_size_lem.result ≤ length c.before.before.before.args.seen.now
+    c.free.result * c.zone_size-size.result + c.zone_size-size.result ≤ length c.args.seen.now
 inside c =
-    let p = c.before.before.before.requires in
-    rw (c.before.zone_size_lem.ensures, c.free.ensures) (free_fits p.tables (omega (arith, p.row)))
+    let p = c.requires in
+    rw (c.zone_size-size.ensures, c.free.ensures) (free_fits p.tables (omega (arith, p.row)))
 
 unfit-requires : tie.Need-unfit-requires
 unfit-requires c κs =
-    let f = c.before in
-    let z = f.before in
-    let b = z.before.before in
-    let p = b.requires in
-    let size = z.zone_size_lem.result in
-    let seen = b.args.seen.now in
+    let p = c.requires in
+    let size = c.zone_size-size.result in
+    let seen = c.args.seen.now in
     record {
       looking = record {
         table = p.times_in_lem;
         set = record {
           few = p.table_in_lem.few;
-          size = rw (lent_at size f.free.result seen) (length_numbers size seen f.free.result (inside f)) ∙ z.zone_size_lem.ensures;
+          size = rw (lent_at size c.free.result seen) (length_numbers size seen c.free.result (inside c.before)) ∙ c.zone_size-size.ensures;
         };
         needs_in = p.table_in_lem;
       };
@@ -41,10 +38,7 @@ unfit-requires c κs =
 returns : tie.Need-returns
 unfolding zone_at
 returns c t =
-    let f = c.before.before in
-    let z = f.before in
-    let b = z.before.before in
-    rw (← z.zone_size_lem.ensures, ← f.free.ensures, ← (lent_at z.zone_size_lem.result f.free.result b.args.seen.now)) (c.unfit.ensures t)
+    rw (← c.zone_size-size.ensures, ← c.free.ensures, ← (lent_at c.zone_size-size.result c.free.result c.args.seen.now)) (c.unfit.ensures t)
 
 pub unfit_spec : {M : Type 1} → statement M
 unfit_spec =

@@ -2,7 +2,7 @@
 use native.Mathlib.Omega.{arith}
 use native.Mathlib.Nat.{mul-le-mul_right, suc-mul}
 use Prim.Native.Nat.{◌+◌, ◌-◌, ◌≤◌, ◌<◌}
-use mathlib.Core.Path.{◌≡◌, sym, ap, ◌∙◌}
+use mathlib.Core.Path.{◌≡◌, sym, ap}
 use mathlib.Core.Bool.{false}
 use Rattle.model.specs.Lists.{any_of}
 use Rattle.model.specs.Matrix.{same_matrix}
@@ -13,57 +13,54 @@ use Rattle.lists.proofs.places.Zones.{any_found}
 use Rattle.lists.proofs.places.has.Statement.{statement}
 use Rattle.lists.proofs.places.has.Tie as tie
 
-abbrev invariant-loop : tie.invariant-loop
+abbrev invariant-loop : tie.invariant-loop-k
 invariant-loop list first end zone size k₀ p₀ k p = (p < size) × (first ≤ k) × (k ≤ end) × (any_of (same_matrix (bounds_in zone)) (from (zone_at size list) end k) ≡ false)
 
-abbrev decreases-loop : tie.decreases-loop
+abbrev decreases-loop : tie.decreases-loop-k
 decreases-loop list first end zone size k₀ p₀ k p = k - first
 
-loop-holds : tie.Need-loop-init invariant-loop decreases-loop
+loop-holds : tie.Need-loop-k-init invariant-loop decreases-loop
 unfolding any_of
 loop-holds c = (c.requires.1, c.requires.2, omega arith, ap (any_of _) (from_end _ c.args.end c.args.end (omega arith)))
 
-sub-k : tie.Need-overflow-sub-k invariant-loop decreases-loop
+sub-k : tie.Need-overflow_sub-k invariant-loop decreases-loop
 sub-k c = omega arith
 
-other-requires : tie.Need-other-requires invariant-loop decreases-loop
+other-requires : tie.Need-other-p-requires invariant-loop decreases-loop
 other-requires c κs =
-    let s = c.before.before in
-    let l = c.before.loop in
-    let h : l.k - 1 < s.args.end = omega (arith, l.invariant.2, c.loop-test.true) in (
-      record { fits = s.requires.0; inside = omega (arith, mul-le-mul_right s.args.size h, suc-mul (l.k - 1) s.args.size) },
+    let l = c.loop-k in
+    let h : l.k - 1 < c.args.end = omega (arith, l.invariant.2, c.loop-k-test.true) in (
+      record { fits = c.requires.0; inside = omega (arith, mul-le-mul_right c.args.size h, suc-mul (l.k - 1) c.args.size) },
       l.invariant.0,
     )
 
-returns : tie.Need-returns invariant-loop decreases-loop
+returns : tie.Need-returns-then-p-size invariant-loop decreases-loop
 returns c =
-    let x = c.before in
-    let a = x.before.before.before.args in
-    let l = x.before.before.loop in
+    let a = c.args in
+    let l = c.loop-k in
     sym (any_found _ (zone_at a.size a.list.now) (a.end - a.first) a.first (l.k - 1)
-    (omega (arith, x.before.loop-test.true)) (omega (arith, l.invariant.2, x.before.loop-test.true)) (x.other.ensures.same c.if1.true))
+    (omega (arith, c.loop-k-test.true)) (omega (arith, l.invariant.2, c.loop-k-test.true)) (c.other-p.ensures.same c.if-p-size.true))
 
-loop-less : tie.Need-loop-smaller invariant-loop decreases-loop
-loop-less c = let h = c.before.before.loop-test.true in omega arith
+loop-less : tie.Need-loop-k-smaller invariant-loop decreases-loop
+loop-less c = let h = c.loop-k-test.true in omega arith
 
-loop-again : tie.Need-loop-preserved invariant-loop decreases-loop
+loop-again : tie.Need-loop-k-preserved invariant-loop decreases-loop
 unfolding any_of
 loop-again c =
-    let x = c.before in
-    let a = x.before.before.before.args in
-    let l = x.before.before.loop in
-    let h = x.before.loop-test.true in
+    let a = c.args in
+    let l = c.loop-k in
+    let h = c.loop-k-test.true in
     let e : l.k - 1 + 1 ≡ l.k = omega arith in
     let next = from_next (zone_at a.size a.list.now) a.end (l.k - 1) (omega (arith, l.invariant.2)) in
-    let r = x.other.ensures in
-    let less : x.other.result < a.size = let u = r.to in omega (arith, c.if1.false) in
+    let r = c.other-p.ensures in
+    let less : c.other-p.result < a.size = let u = r.to in omega (arith, c.if-p-size.false) in
     (less, omega arith, omega (arith, l.invariant.2), rw (next, e, r.other less) l.invariant.3)
 
-returns-2 : tie.Need-returns-2 invariant-loop decreases-loop
+returns-2 : tie.Need-returns invariant-loop decreases-loop
 returns-2 c =
-    let a = c.before.before.args in
-    let l = c.before.loop in
-    let e : l.k ≡ a.first = omega (arith, l.invariant.1, c.loop-test.false) in
+    let a = c.args in
+    let l = c.loop-k in
+    let e : l.k ≡ a.first = omega (arith, l.invariant.1, c.loop-k-test.false) in
     sym (rw e at l.invariant.3)
 
 pub has_spec : {M : Type 1} → statement M
