@@ -5,4 +5,4 @@ use Rattle.convert.proofs.entry_length.Statement.{statement}
 use Rattle.convert.proofs.entry_length.Tie as tie
 
 pub entry_length_spec : {M : Type 1} → statement M
-entry_length_spec = tie.close (tie.spec (λ c. search rules) (λ c. (rw c.if1.true, omega arith)) (λ c. (rw c.if1.false, omega arith)))
+entry_length_spec = tie.close (tie.spec (λ c. search rules) (λ c. (rw c.if-has.true, omega arith)) (λ c. (rw c.if-has.false, omega arith)))

@@ -15,52 +15,48 @@ use Rattle.convert.proofs.Laws.{departures_lost, marks_lost_lem}
 use Rattle.convert.proofs.loss.Statement.{statement}
 use Rattle.convert.proofs.loss.Tie as tie
 
-returns : tie.Need-returns
-returns c = sym (departures_lost c.before.args.case c.if1.true)
+returns : tie.Need-returns-then-n-gt-OLD_DEPARTURES
+returns c = sym (departures_lost c.args.case c.if-n-gt-OLD_DEPARTURES.true)
 
-mul-size : tie.Need-overflow-mul-size
-mul-size c = rw add-one (omega (arith, pattern_fits c.before.before.before.before.requires))
+mul-size : tie.Need-overflow_mul-size
+mul-size c = rw add-one (omega (arith, pattern_fits c.requires))
 
-times-length-requires : tie.Need-times-length-requires
-times-length-requires c κs = omega (arith, table_fits c.before.before.before.before.before.before.requires)
+times-length-requires : tie.Need-times_length-requires
+times-length-requires c κs = omega (arith, table_fits c.requires)
 
-mul-times-length : tie.Need-overflow-mul-times-length
-mul-times-length c = omega (arith, table_fits c.before.before.before.before.before.before.requires)
+mul-times-length : tie.Need-overflow_mul-n
+mul-times-length c = omega (arith, table_fits c.requires)
 
-add-first-3 : tie.Need-overflow-add-first-3
-add-first-3 c = omega (arith, table_fits c.before.before.before.before.before.before.before.requires)
+add-first-3 : tie.Need-overflow_add-first-3
+add-first-3 c = omega (arith, table_fits c.requires)
 
 marks-requires : tie.Need-marks-requires
 marks-requires c κs =
-    let d = c.before.before.before.before.before.before.before.requires in
+    let d = c.requires in
     (rw add-one (pattern_fits d), omega (arith, table_fits d))
 
 -- what the bounds of the start leave
 after_start : (c : tie.After-marks)
-    → let case = c.before.before.before.before.before.before.before.before.args.case in
+    → let case = c.args.case in
     loss_fault wide old case ≡ found c.marks.result (take (pattern_size case.n) case.target)
 after_start c =
-    let t = c.before in
-    let case = t.before.before.before.before.before.before.before.args.case in
+    let case = c.args.case in
     let bounds = rw add-one at (c.marks.ensures.is (take (pattern_size case.n) case.target)) in
-    marks_lost_lem case (omega arith) (13 + t.times-length.result) (omega (arith, t.times-length.ensures.0)) ∙ bounds
+    marks_lost_lem case (omega arith) (13 + c.times_length.result) (omega (arith, c.times_length.ensures.0)) ∙ bounds
 
-marks-requires-2 : tie.Need-marks-requires-2
+marks-requires-2 : tie.Need-marks-requires-in-Next
 marks-requires-2 c κs =
-    let n = c.before in
-    let m = n.before.before in
-    let d = m.before.before.before.before.before.before.before.before.requires in
-    let near = simp length-take at (rw (n.next.given.1, add-one) at m.marks.ensures.near) in
+    let d = c.requires in
+    let near = simp length-take at (rw (c.in-Next.is, add-one) at c.marks.ensures.near) in
     (rw add-one (pattern_fits d), omega (arith, near, table_fits d, pattern_fits d))
 
-returns-2 : tie.Need-returns-2
-returns-2 c = sym (rw c.before.place.given.1 at (after_start c.before.before.before))
+returns-2 : tie.Need-returns-in-Lost
+returns-2 c = sym (rw c.in-Lost.is at (after_start c.before))
 
-returns-3 : tie.Need-returns-3
+returns-3 : tie.Need-returns-in-Next
 returns-3 c =
-    let n = c.before.before in
-    let rest = rw (add-one, append-nil) at (c.marks2.ensures.is []) in
-    sym (rw n.next.given.1 at (after_start n.before.before) ∙ rest)
+    let rest = rw (add-one, append-nil) at (c.marks-in-Next.ensures.is []) in
+    sym (rw c.in-Next.is at (after_start c.before.before) ∙ rest)
 
 pub loss_spec : {M : Type 1} → statement M
 loss_spec =

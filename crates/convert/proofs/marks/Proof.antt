@@ -11,24 +11,21 @@ use Rattle.convert.proofs.Laws.{entry_length, Looking, looking_none, looking_mor
 use Rattle.convert.proofs.marks.Statement.{statement}
 use Rattle.convert.proofs.marks.Tie as tie
 
-abbrev invariant-loop : tie.invariant-loop
+abbrev invariant-loop : tie.invariant-loop-i
 invariant-loop count start bounds at₀ i₀ at i = Looking bounds count start i at
 
-abbrev decreases-loop : tie.decreases-loop
+abbrev decreases-loop : tie.decreases-loop-i
 decreases-loop count start bounds at₀ i₀ at i = count - i
 
-returns : tie.Need-returns invariant-loop decreases-loop
+returns : tie.Need-returns-then-bound invariant-loop decreases-loop
 returns c =
-    let u = c.before.before.before in
-    looking_strict u.before.loop.invariant (omega arith) u.loop-test.true c.if1.true
+    looking_strict c.loop-i.invariant (omega arith) c.loop-i-test.true c.if-bound.true
 
-loop-again : tie.Need-loop-preserved invariant-loop decreases-loop
+loop-again : tie.Need-loop-i-preserved invariant-loop decreases-loop
 loop-again c =
-    let e = c.before.before in
-    let u = e.before.before.before in
-    let bound = get_or u.before.before.args.t1 u.before.loop.i (unmarked nothing) in
-    looking_more u.before.loop.invariant (omega arith) u.loop-test.true e.if1.false c.entry_length.result
-    (c.entry_length.ensures.0 ∙ sym (entry_length (bound_kind wide) bound)) c.entry_length.ensures.1
+    let bound = get_or c.args.bounds c.loop-i.i (unmarked nothing) in
+    looking_more c.loop-i.invariant (omega arith) c.loop-i-test.true c.if-bound.false c.entry_length-at.result
+    (c.entry_length-at.ensures.0 ∙ sym (entry_length (bound_kind wide) bound)) c.entry_length-at.ensures.1
 
 pub marks_spec : {M : Type 1} → statement M
 marks_spec =
@@ -46,4 +43,4 @@ marks_spec =
     (λ c. omega arith)
     (λ c. omega arith)
     loop-again
-    (λ c. looking_all c.before.loop.invariant (omega arith) c.loop-test.false))
+    (λ c. looking_all c.loop-i.invariant (omega arith) c.loop-i-test.false))

@@ -12,28 +12,27 @@ use Rattle.convert.proofs.Laws.{one_longer}
 use Rattle.convert.proofs.times_length.Statement.{statement}
 use Rattle.convert.proofs.times_length.Tie as tie
 
-abbrev invariant-loop : tie.invariant-loop
+abbrev invariant-loop : tie.invariant-loop-i
 invariant-loop count times total₀ i₀ total i = (i ≤ count) × (total ≡ length (entries_bits time_kind (take i times))) × (total ≤ (1 + time_width) * i)
 
-abbrev decreases-loop : tie.decreases-loop
+abbrev decreases-loop : tie.decreases-loop-i
 decreases-loop count times total₀ i₀ total i = count - i
 
-loop-holds : tie.Need-loop-init invariant-loop decreases-loop
+loop-holds : tie.Need-loop-i-init invariant-loop decreases-loop
 unfolding entries_bits flat_map
 loop-holds c = omega arith
 
-loop-again : tie.Need-loop-preserved invariant-loop decreases-loop
+loop-again : tie.Need-loop-i-preserved invariant-loop decreases-loop
 loop-again c =
-    let l = c.before.before.before in
-    let i = l.loop.i in
-    let times = l.before.args.t1 in
+    let i = c.loop-i.i in
+    let times = c.args.times in
     let more = one_longer time_kind nothing times i (omega arith) in
     (omega arith, omega (arith, more), omega arith)
 
 returns : tie.Need-returns invariant-loop decreases-loop
 returns c =
-    let e : c.before.loop.i ≡ c.before.before.args.count = omega arith in
-    (rw e at c.before.loop.invariant.1, omega arith)
+    let e : c.loop-i.i ≡ c.args.count = omega arith in
+    (rw e at c.loop-i.invariant.1, omega arith)
 
 pub times_length_spec : {M : Type 1} → statement M
 times_length_spec =

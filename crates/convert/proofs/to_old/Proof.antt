@@ -10,42 +10,32 @@ use Rattle.convert.proofs.Given.{reading_refused, reading_got, given_refused, gi
 use Rattle.convert.proofs.to_old.Statement.{statement}
 use Rattle.convert.proofs.to_old.Tie as tie
 
-returns : tie.Need-returns
+returns : tie.Need-returns-in-Refused
 returns c =
-    let d = c.before in
-    let r = d.before.before in
-    let a = r.before.before.before.args in
+    let a = c.args in
     let s = a.bytes.now in
-    given_refused wide old s a.out.now (reading_refused (parse_as wide s) r.read_wide.ensures d.judged.given.1)
+    given_refused wide old s a.out.now (reading_refused (parse_as wide s) c.read_wide-read.ensures c.in-Refused.is)
 
 -- what was read
-read : (c : tie.After-case)
-    → let r = c.before.before.before in
-    (q : ℕ) × (parse_as wide r.before.before.before.args.bytes.now ≡ got r.read_wide.result.case q)
+read : (c : tie.After-case-1)
+    → (q : ℕ) × (parse_as wide c.args.bytes.now ≡ got c.read_wide-read.result.case q)
 read c =
-    let d = c.before in
-    let r = d.before.before in
-    reading_got (parse_as wide r.before.before.before.args.bytes.now) r.read_wide.ensures d.enum_told.given.1
+    reading_got (parse_as wide c.args.bytes.now) c.read_wide-read.ensures c.in_default.is
 
 loss-requires : tie.Need-loss-requires
 loss-requires c κs = let (q, e) = read c in read_departures wide_form _ _ q e
 
-returns-2 : tie.Need-returns-2
+returns-2 : tie.Need-returns-in-Lost
 returns-2 c =
-    let p = c.before in
-    let l = p.before.before in
-    let a = l.before.before.before.before.before.before.before.args in
-    let (q, e) = read l.before in
-    given_lost wide old a.bytes.now a.out.now e (sym (rw p.place.given.1 at l.loss.ensures))
+    let a = c.args in
+    let (q, e) = read c.before.before in
+    given_lost wide old a.bytes.now a.out.now e (sym (rw c.in-Lost.is at c.loss.ensures))
 
-returns-3 : tie.Need-returns-3
+returns-3 : tie.Need-returns
 returns-3 c =
-    let w = c.before.before in
-    let t = w.before.before in
-    let l = t.before.before in
-    let a = l.before.before.before.before.before.before.before.args in
-    let (q, e) = read l.before in
-    given_written wide old a.bytes.now a.out.now e wide_form (sym (rw t.enum-told2.given.1 at l.loss.ensures)) w.write.ensures
+    let a = c.args in
+    let (q, e) = read c.before.before.before.before.before.before in
+    given_written wide old a.bytes.now a.out.now e wide_form (sym (rw c.in_default-loss.is at c.loss.ensures)) c.write.ensures
 
 pub to_old_spec : {M : Type 1} → statement M
 to_old_spec =

@@ -8,23 +8,18 @@ use Rattle.convert.proofs.Given.{reading_refused, reading_got, given_refused, gi
 use Rattle.convert.proofs.to_wide.Statement.{statement}
 use Rattle.convert.proofs.to_wide.Tie as tie
 
-returns : tie.Need-returns
+returns : tie.Need-returns-in-Refused
 returns c =
-    let d = c.before in
-    let r = d.before.before in
-    let a = r.before.before.before.args in
+    let a = c.args in
     let s = a.bytes.now in
-    given_refused old wide s a.out.now (reading_refused (parse_as old s) r.read-old.ensures d.judged.given.1)
+    given_refused old wide s a.out.now (reading_refused (parse_as old s) c.read_old-read.ensures c.in-Refused.is)
 
-returns-2 : tie.Need-returns-2
+returns-2 : tie.Need-returns
 returns-2 c =
-    let w = c.before.before in
-    let d = w.before.before.before in
-    let r = d.before.before in
-    let a = r.before.before.before.args in
+    let a = c.args in
     let s = a.bytes.now in
-    let (q, e) = reading_got (parse_as old s) r.read-old.ensures d.enum_told.given.1 in
-    given_written old wide s a.out.now e old_form (all_widen old_form s _ q e) w.write-wide.ensures
+    let (q, e) = reading_got (parse_as old s) c.read_old-read.ensures c.in_default.is in
+    given_written old wide s a.out.now e old_form (all_widen old_form s _ q e) c.write_wide.ensures
 
 pub to_wide_spec : {M : Type 1} → statement M
 to_wide_spec =

@@ -13,19 +13,16 @@ use Rattle.moves.proofs.change.Tie as tie
 
 minus-requires : tie.Need-minus-requires
 minus-requires c κs =
-    let s = c.before.before in
-    let a = s.args in
+    let a = c.args in
     let m = a.n + 1 in
-    let small = change_small a.by.0 (a.p / m % m) (a.p % m) s.requires.small in
-    rw (c.before.later.ensures, c.later2.ensures) (sized_fits _ (omega arith))
+    let small = change_small a.by.0 (a.p / m % m) (a.p % m) c.requires.small in
+    rw (c.later.ensures, c.later-2.ensures) (sized_fits _ (omega arith))
 
 returns : tie.Need-returns
 unfolding change_at
 returns c =
-    let l = c.before.before in
-    let s = l.before in
-    let e = c.minus.ensures ∙ ap₂ ◌-ℤ◌ l.later.ensures c.before.later2.ensures in
-    record { is = rw (add-one s.args.n) at e; small = rw e (change_small s.args.by.0 _ _ s.requires.small) }
+    let e = c.minus.ensures ∙ ap₂ ◌-ℤ◌ c.later.ensures c.later-2.ensures in
+    record { is = rw (add-one c.args.n) at e; small = rw e (change_small c.args.by.0 _ _ c.requires.small) }
 
 pub change_spec : {M : Type 1} → statement M
 change_spec =

@@ -13,39 +13,35 @@ use Rattle.moves.proofs.Numbered.{FollowUpto, one_more, moved_numbers}
 use Rattle.moves.proofs.follow.Statement.{statement}
 use Rattle.moves.proofs.follow.Tie as tie
 
-abbrev invariant-loop : tie.invariant-loop
+abbrev invariant-loop : tie.invariant-loop-p
 invariant-loop work source goal count n by size p₀ p = (p ≤ size) × (size ≡ count * zone_size n) × FollowUpto n by.0 work source goal p
 
-abbrev decreases-loop : tie.decreases-loop
+abbrev decreases-loop : tie.decreases-loop-p
 decreases-loop work source goal count n by size p₀ p = size - p
 
-mul-size : tie.Need-overflow-mul-size invariant-loop decreases-loop
-mul-size c = rw c.zone_size_lem.ensures (omega arith)
+mul-size : tie.Need-overflow_mul-size invariant-loop decreases-loop
+mul-size c = rw c.zone_size.ensures (omega arith)
 
-loop-holds : tie.Need-loop-init invariant-loop decreases-loop
-loop-holds c = (omega arith, ap (◌*◌ c.before.args.count) c.zone_size_lem.ensures, λ q h. absurd (omega arith))
+loop-holds : tie.Need-loop-p-init invariant-loop decreases-loop
+loop-holds c = (omega arith, ap (◌*◌ c.args.count) c.zone_size.ensures, λ q h. absurd (omega arith))
 
 change-requires : tie.Need-change-requires invariant-loop decreases-loop
-change-requires c κs = let s = c.before.before.before.before.before in record { few = s.requires.0.few; small = s.requires.1 }
+change-requires c κs = record { few = c.requires.0.few; small = c.requires.1 }
 
-loop-again : tie.Need-loop-preserved invariant-loop decreases-loop
+loop-again : tie.Need-loop-p-preserved invariant-loop decreases-loop
 loop-again c =
-    let f = c.before in
-    let b = f.before.before in
-    let l = b.before.before.before in
-    let s = l.before.before.args in
-    let a-told = to_z-of_z w32 (get_or s.work.now (s.source + l.loop.p) (pos 0)) (record { sfits = b.before.a.given }) in
-    let b-told = to_z-of_z w32 (get_or s.work.now (s.goal + l.loop.p) (pos 0)) (record { sfits = b.b.given }) in
-    let e = rw (a-told, b-told, f.before.change.ensures.is) at (f.follows.ensures (not-false f.follows.result c.if1.false)) in
-    (omega arith, l.loop.invariant.1, one_more _ l.loop.p l.loop.invariant.2 e)
+    let s = c.args in
+    let a-told = to_z-of_z w32 (get_or s.work.now (s.source + c.loop-p.p) (pos 0)) (record { sfits = c.a-1.given }) in
+    let b-told = to_z-of_z w32 (get_or s.work.now (s.goal + c.loop-p.p) (pos 0)) (record { sfits = c.b-1.given }) in
+    let e = rw (a-told, b-told, c.change.ensures.is) at (c.follows.ensures (not-false c.follows.result c.if-not-follows.false-raw)) in
+    (omega arith, c.loop-p.invariant.1, one_more _ c.loop-p.p c.loop-p.invariant.2 e)
 
-returns-2 : tie.Need-returns-2 invariant-loop decreases-loop
+returns-2 : tie.Need-returns invariant-loop decreases-loop
 returns-2 c e =
-    let s = c.before.before.before in
-    let a = s.args in
-    let i = c.before.loop.invariant in
-    let all : c.before.loop.p ≡ a.count * zone_size a.n = omega (arith, i.1) in
-    let both = s.requires.0 in
+    let a = c.args in
+    let i = c.loop-p.invariant in
+    let all : c.loop-p.p ≡ a.count * zone_size a.n = omega (arith, i.1) in
+    let both = c.requires.0 in
     moved_numbers a.n a.count a.by.0 a.work.now a.work.now a.source a.goal both.source_in both.goal_in (rw all at i.2)
 
 pub follow_spec : {M : Type 1} → statement M

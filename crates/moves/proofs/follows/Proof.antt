@@ -11,23 +11,20 @@ use Rattle.moves.proofs.Numbers.{none_there, halves_there, twice_more, twice_fit
 use Rattle.moves.proofs.follows.Statement.{statement}
 use Rattle.moves.proofs.follows.Tie as tie
 
-returns : tie.Need-returns
+returns : tie.Need-returns-then-a-eq-NONE
 unfolding plus
-returns c e = let s = c.before in rw (none_there _ s.ranges.a c.if1.true, none_there _ s.ranges.b (eqb-true _ _ e))
+returns c e = rw (none_there _ c.ranges.a c.if-a-eq-NONE.true, none_there _ c.ranges.b (eqb-true _ _ e))
 
-returns-3 : tie.Need-returns-3
+returns-3 : tie.Need-returns
 returns-3 c e =
-    let m = c.before.before.before.before in
-    let o = m.before.before in
-    let s = o.before.before in
-    let a = s.args in
-    let sum = rw (to_z-of_z w32 _ s.ranges.a) at m.before.sum.ensures in
-    let read = m.of.ensures ∙ to_z-of_z w32 _ s.ranges.b in
-    let sum_fits = rw (← sum) at (twice_fits _ s.ranges.a a.by.0 s.requires) in
-    let b-fits = rw (← read) at (wider _ s.ranges.b) in
-    let bits = eqb-true (of_z w64 m.before.sum.result.0) (of_z w64 m.of.result.0) e in
+    let a = c.args in
+    let sum = rw (to_z-of_z w32 _ c.ranges.a) at c.sum.ensures in
+    let read = c.of.ensures ∙ to_z-of_z w32 _ c.ranges.b in
+    let sum_fits = rw (← sum) at (twice_fits _ c.ranges.a a.by.0 c.requires) in
+    let b-fits = rw (← read) at (wider _ c.ranges.b) in
+    let bits = eqb-true (of_z w64 c.sum.result.0) (of_z w64 c.of.result.0) e in
     let same = sym (to_z-of_z w64 _ sum_fits) ∙ ap (to_z w64) bits ∙ to_z-of_z w64 _ b-fits in
-    rw (halves_there a.b o.if2.false, halves_there a.a o.before.if1.false, ← read, ← same, sum)
+    rw (halves_there a.b c.if-b-eq-NONE.false, halves_there a.a c.if-a-eq-NONE.false, ← read, ← same, sum)
     (twice_more a.a a.by.0)
 
 pub follows_spec : {M : Type 1} → statement M

@@ -8,10 +8,10 @@ use Rattle.model.specs.Sizes.{zone_size}
 use Rattle.moves.proofs.gap.Statement.{statement}
 use Rattle.moves.proofs.gap.Tie as tie
 
-abbrev invariant-loop : tie.invariant-loop
+abbrev invariant-loop : tie.invariant-loop-i
 invariant-loop work source goal n m i₀ i = i ≤ n + 1
 
-abbrev decreases-loop : tie.decreases-loop
+abbrev decreases-loop : tie.decreases-loop-i
 decreases-loop work source goal n m i₀ i = n + 1 - i
 
 -- the places of (0, i) and of (i, 0)
@@ -21,8 +21,8 @@ places n i h =
     let z : 0 < suc n = omega arith in
     rw (add-one n) (omega (arith, digits_lt z l), omega (arith, digits_lt l z))
 
-inside : (c : tie.In-loop invariant-loop decreases-loop) → let n = c.before.before.args.n in let i = c.before.loop.i in (i < zone_size n) × (i * (n + 1) < zone_size n)
-inside c = places c.before.before.args.n c.before.loop.i (let h = c.loop-test.true in omega arith)
+inside : (c : tie.In-loop-i invariant-loop decreases-loop) → let n = c.args.n in let i = c.loop-i.i in (i < zone_size n) × (i * (n + 1) < zone_size n)
+inside c = places c.args.n c.loop-i.i (let h = c.loop-i-test.true in omega arith)
 
 pub gap_spec : {M : Type 1} → statement M
 gap_spec =
@@ -49,7 +49,7 @@ gap_spec =
     (λ c. omega (arith, inside c.before.before.before.before))
     (λ c. omega (arith, inside c.before.before.before.before))
     (λ c κs. search rules)
-    (λ c. c.half2.ensures)
+    (λ c. c.half-then-late-ne-NONE.ensures)
     (λ c. omega arith)
     (λ c. omega arith)
     (λ c. omega arith)

@@ -6,12 +6,12 @@ use Rattle.moves.proofs.Numbers.{on_time}
 use Rattle.moves.proofs.later.Statement.{statement}
 use Rattle.moves.proofs.later.Tie as tie
 
-returns : tie.Need-returns
+returns : tie.Need-returns-then-i-eq0
 unfolding clock_by
-returns c = rw c.if1.true refl
+returns c = rw c.if-i-eq0.true refl
 
-returns-2 : tie.Need-returns-2
-returns-2 c = sym (on_time _ _ (let h = c.if1.false in omega arith))
+returns-2 : tie.Need-returns
+returns-2 c = sym (on_time _ _ (let h = c.if-i-eq0.false in omega arith))
 
 pub later_spec : {M : Type 1} → statement M
 later_spec = tie.close (tie.spec returns returns-2)

@@ -12,31 +12,29 @@ use Rattle.moves.proofs.Numbers.{none_there, halves_there, twice_fits, sum_narro
 use Rattle.moves.proofs.shifted.Statement.{statement}
 use Rattle.moves.proofs.shifted.Tie as tie
 
-returns : tie.Need-returns
+returns : tie.Need-returns-then-raw-eq-NONE
 unfolding bound_in same_z plus
-returns c = let s = c.before in rw (none_there _ s.ranges.raw c.if1.true)
+returns c = rw (none_there _ c.ranges.raw c.if-raw-eq-NONE.true)
 
 -- the bound is not none, and the sum can be stored
-bounded : (c : tie.Else1) → bound_in c.before.args.raw ≡ of_halves c.before.args.raw
-bounded c = halves_there _ c.if1.false
+bounded : (c : tie.Else-raw-eq-NONE) → bound_in c.args.raw ≡ of_halves c.args.raw
+bounded c = halves_there _ c.if-raw-eq-NONE.false
 
-small : (c : tie.Else1) → Small Limit (plus (of_halves c.before.args.raw) (most c.before.args.by.0))
-small c = rw (bounded c) at c.before.requires.1
+small : (c : tie.Else-raw-eq-NONE) → Small Limit (plus (of_halves c.args.raw) (most c.args.by.0))
+small c = rw (bounded c) at c.requires.1
 
-told : (c : tie.After-struct-told) → let a = c.before.before.before.before.args in
-    to_z w64 (of_z w64 c.before.before.sum.result.0) ≡ (a.raw +ℤ a.by.0) +ℤ a.by.0
+told : (c : tie.After-struct_told-1) → let a = c.args in
+    to_z w64 (of_z w64 c.sum.result.0) ≡ (a.raw +ℤ a.by.0) +ℤ a.by.0
 told c =
-    let s = c.before.before.before.before in
-    let e = rw (to_z-of_z w32 _ s.ranges.raw) at c.before.before.sum.ensures in
-    rw e (to_z-of_z w64 _ (twice_fits _ s.ranges.raw s.args.by.0 s.requires.0))
+    let e = rw (to_z-of_z w32 _ c.ranges.raw) at c.sum.ensures in
+    rw e (to_z-of_z w64 _ (twice_fits _ c.ranges.raw c.args.by.0 c.requires.0))
 
-cast-result : tie.Need-overflow-cast-result
+cast-result : tie.Need-overflow_cast-result
 cast-result c = rw (told c) (sum_narrow _ _ (small c.before.before.before))
 
-returns-2 : tie.Need-returns-2
+returns-2 : tie.Need-returns
 returns-2 c =
-    let e = c.before.before.before in
-    rw (told c, to_z-of_z w32 _ (sum_narrow _ _ (small e)), bounded e) (sum_stored _ _ (small e))
+    rw (told c, to_z-of_z w32 _ (sum_narrow _ _ (small c.before.before.before)), bounded c.before.before.before) (sum_stored _ _ (small c.before.before.before))
 
 pub shifted_spec : {M : Type 1} → statement M
 shifted_spec = tie.close (tie.spec returns (λ c κs. search rules) cast-result returns-2)
