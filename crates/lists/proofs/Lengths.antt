@@ -21,10 +21,6 @@ sets_few n = go (ltb middle_network n)
 pub places_few : (n i : ℕ) → i ≤ most_departures → i * places_met n ≤ most_departures * suc many_sets
 places_few n i row = let sets : places_met n ≤ suc many_sets = omega (arith, sets_few n) in mul-le-mul row sets
 
--- ---- a zone has numbers
-pub some_numbers : (n : ℕ) → 1 ≤ zone_size n
-some_numbers n = let one : 1 ≤ suc n = omega arith in mul-le-mul one one
-
 -- ---- a table that is long enough
 -- it has room for a set
 pub set_room : (n : ℕ) → zone_size n ≤ size_seen n

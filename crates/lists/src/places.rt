@@ -1,5 +1,5 @@
 // Sets at places of a list: place k of sets of so many numbers begins k times as many numbers behind the first.
-ghost use Rattle.std.specs.Prelude.{◌≡◌, ◌+◌, ◌*◌, ◌-◌, ◌≤◌, ◌<◌, length};
+ghost use Rattle.std.specs.Prelude.{◌≡◌, true, false, ◌+◌, ◌*◌, ◌-◌, ◌≤◌, ◌<◌, length};
 ghost use Rattle.std.proofs.Math.Seq.{paste};
 ghost use Rattle.model.specs.Lists.{tabulate, any_of};
 ghost use Rattle.model.specs.Bound.{same_z};
@@ -32,40 +32,51 @@ fn first_other(list: &[i32], k: usize, zone: &[i32], size: usize) -> usize
     size
 }
 
-// A place at which zone k of the list is another than this one, or size if it is this one. Place p is looked at first.
-fn other(list: &[i32], k: usize, zone: &[i32], size: usize, p: usize) -> usize
-    requires { Comparing list.now k zone.now size × (p < size) }
-    ensures { Other size list.now k zone.now result }
+// Zone k of the list is this one.
+fn same(list: &[i32], k: usize, zone: &[i32], size: usize) -> bool
+    requires { (length zone.now ≡ size) × (k * size + size ≤ length list.now) }
+    ensures { result ≡ same_matrix (bounds_in zone.now) (zone_at size list.now k) }
 {
+    first_other(list, k, zone, size) == size
+}
+
+// Place p, if there is such a place, shows that zone k of the list is another than this one.
+fn apart(list: &[i32], k: usize, zone: &[i32], size: usize, p: usize) -> bool
+    requires { Comparing list.now k zone.now size }
+    ensures { result ≡ true → same_matrix (bounds_in zone.now) (zone_at size list.now k) ≡ false }
+{
+    if size <= p {
+        return false;
+    }
     let a = zone[p];
     let b = list[k * size + p];
-    if !equal(a, b) {
-        return p;
-    }
-    first_other(list, k, zone, size)
+    !equal(a, b)
 }
 
 // Some zone of the list, from zone first on and before zone end, is this one. The last ones are looked at first: a set that is made again was
 // most often made a short while ago. Of each the place comes first at which the one before was another: most often it is another there too.
 pub(crate) fn has(list: &[i32], first: usize, end: usize, zone: &[i32], size: usize) -> bool
-    requires { (length zone.now ≡ size) × (1 ≤ size) × (first ≤ end) × (end * size ≤ length list.now) }
+    requires { (length zone.now ≡ size) × (first ≤ end) × (end * size ≤ length list.now) }
     ensures { result ≡ any_of (same_matrix (bounds_in zone.now)) (tabulate (end - first) first (zone_at size list.now)) }
 {
     let mut k = end;
     let mut p = 0;
     while first < k {
         k -= 1;
-        p = other(list, k, zone, size, p);
-        if p == size {
+        if apart(list, k, zone, size, p) {
+            continue;
+        }
+        if same(list, k, zone, size) {
             return true;
         }
+        p = first_other(list, k, zone, size);
     }
     false
 }
 
 // The same, for zone k of the list itself.
 pub(crate) fn has_at(list: &[i32], first: usize, end: usize, k: usize, size: usize) -> bool
-    requires { (1 ≤ size) × (first ≤ end) × (end * size ≤ length list.now) × (k * size + size ≤ length list.now) }
+    requires { (first ≤ end) × (end * size ≤ length list.now) × (k * size + size ≤ length list.now) }
     ensures { result ≡ any_of (same_matrix (zone_at size list.now k)) (tabulate (end - first) first (zone_at size list.now)) }
 {
     let base = k * size;

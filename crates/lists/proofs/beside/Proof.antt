@@ -8,7 +8,6 @@ use Rattle.model.specs.Sizes.{zone_size}
 use Rattle.lists.specs.Lists.{zone_at, list_in}
 use Rattle.lists.specs.Met.{free_at}
 use Rattle.memory.proofs.Side.{length_numbers, lent_at}
-use Rattle.lists.proofs.Lengths.{some_numbers}
 use Rattle.lists.proofs.met.Seen.{placed_none, placed_some}
 use Rattle.lists.proofs.met.Growing.{here_fits}
 use Rattle.lists.proofs.beside.Statement.{statement}
@@ -58,7 +57,6 @@ has-requires : tie.Need-has-requires
 has-requires c κs =
     let long = length_numbers c.zone_size-size.result c.grow.new.seen c.free.result (inside c.before) in (
       rw (lent_at c.zone_size-size.result c.free.result c.grow.new.seen) long,
-      rw c.zone_size-size.ensures (some_numbers _),
       omega arith,
       rw c.zone_size-size.ensures c.requires.1,
     )

@@ -11,7 +11,6 @@ use Rattle.lists.specs.Lists.{list_in}
 use Rattle.lists.specs.Met.{free_at}
 use Rattle.lists.specs.Inner.{PlacedAt, left_of}
 use Rattle.memory.proofs.Side.{length_numbers, lent_at, else_trans}
-use Rattle.lists.proofs.Lengths.{some_numbers}
 use Rattle.lists.proofs.places.Zones.{list_same}
 use Rattle.lists.proofs.met.Seen.{placed_none, placed_some}
 use Rattle.lists.proofs.met.Growing.{parent_fits, copied_else, copied_at, add_ready}
@@ -95,7 +94,7 @@ returns c = placed_none _ (left c.before.before) c.if-not-add_at.true-raw
 has-at-requires : tie.Need-has_at-requires
 has-at-requires c κs =
     let inside = c.requires.1 in
-    rw (c.zone_size-size.ensures, c.add_at.auto.list, c.store.auto.list) (some_numbers _, omega arith, omega arith, inside)
+    rw (c.zone_size-size.ensures, c.add_at.auto.list, c.store.auto.list) (omega arith, omega arith, inside)
 
 same-length-2 : tie.Need-shape_of-list
 same-length-2 c = search rules

@@ -7,7 +7,6 @@ use lib.ListN.{get_or}
 use Rattle.lists.specs.Lists.{places_met}
 use Rattle.lists.specs.Met.{free_at}
 use Rattle.lists.proofs.met.Seen.{placed_none, placed_some, met_same}
-use Rattle.lists.proofs.Lengths.{some_numbers}
 use Rattle.lists.proofs.met.Growing.{here_fits}
 use Rattle.lists.proofs.met.fresh.Statement.{statement}
 use Rattle.lists.proofs.met.fresh.Tie as tie
@@ -18,7 +17,7 @@ returns c = placed_none _ c.grow.ensures c.if-not-grow.true-raw
 has-at-requires : tie.Need-has_at-requires
 has-at-requires c κs =
     let inside = here_fits c.requires.ready in
-    rw (c.zone_size-size.ensures, c.free-here.ensures, c.first.ensures, c.grow.auto.seen) (some_numbers _, omega arith, omega arith, inside)
+    rw (c.zone_size-size.ensures, c.free-here.ensures, c.first.ensures, c.grow.auto.seen) (omega arith, omega arith, inside)
 
 returns-2 : tie.Need-returns
 returns-2 c =
