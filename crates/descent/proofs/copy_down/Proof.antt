@@ -6,6 +6,7 @@ use mathlib.Core.Path.{◌≡◌, sym, ap, ◌∙◌}
 use lib.IntN.{pos}
 use lib.ListN.{length, drop}
 use lib.Seq.{paste, get_or-take, get_or-drop}
+use mir.Syntax.{w64}
 use Rattle.memory.specs.Side.{numbers_at}
 use Rattle.memory.proofs.Side.{length_numbers, Copying, copying_start, copying_more, copying_before}
 use Rattle.descent.proofs.copy_down.Statement.{statement}
@@ -33,7 +34,7 @@ loop-again c =
     let long : length (numbers_at a.size a.sets.now a.from) ≡ a.size = length_numbers a.size a.sets.now a.from (omega arith) in
     let there = get_or-take a.size (drop base a.sets.now) l.p (pos 0) (omega arith) ∙ get_or-drop base a.sets.now l.p (pos 0) in
     let same = copying_before l.invariant.1 (base + l.p) (omega arith) (omega arith) (omega arith) in
-    (omega arith, copying_more l.invariant.1 _ (record { sfits = c.v-1.given }) (same ∙ sym there) (omega arith) (omega arith))
+    (omega arith, copying_more l.invariant.1 {w = w64} _ (record { sfits = c.v-1.given }) (same ∙ sym there) (omega arith) (omega arith))
 
 returns : tie.Need-returns invariant-loop decreases-loop
 returns c =

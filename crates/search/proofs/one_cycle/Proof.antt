@@ -6,73 +6,65 @@ use Rattle.search.proofs.Looked.{meeting, source_same, found_some, found_none}
 use Rattle.search.proofs.one_cycle.Statement.{statement}
 use Rattle.search.proofs.one_cycle.Tie as tie
 
-next-list-requires : tie.Need-next-list-requires
-next-list-requires c κs = c.before.before.requires.building
+next-list-requires : tie.Need-next_list-built-requires
+next-list-requires c κs = c.requires.building
 
-plain-requires : tie.Need-plain-requires
+plain-requires : tie.Need-plain-answer-requires
 plain-requires c κs = search rules
 
 settled-requires : tie.Need-settled-requires
 settled-requires c κs = search rules
 
-same_length : tie.Need-same-length
+same_length : tie.Need-shape_of-work-then-built
 same_length c = search rules
 
-same-length-2 : tie.Need-same-length-2
+same-length-2 : tie.Need-shape_of-seen-then-built
 same-length-2 c = search rules
 
-returns : tie.Need-returns
+returns : tie.Need-returns-then-built
 returns c =
-    let l = c.before.before.before.before.before in
-    rw (c.settled.ensures, c.before.plain.ensures) (full (held_full l.next_list.ensures.list c.before.before.if1.true))
+    rw (c.settled.ensures, c.plain-answer.ensures) (full (held_full c.next_list-built.ensures.list c.if-built.true))
 
-first-common-requires : tie.Need-first-common-requires
+first-common-requires : tie.Need-first_common-found-requires
 first-common-requires c κs =
-    let l = c.before.before.before.before in
-    let made = l.next_list in
-    meeting made.result made.new.0 l.before.before.before.requires made.auto.0 c.before.if1.false made.ensures.list
+    let made = c.next_list-built in
+    meeting made.result made.new.work c.requires made.auto.work c.if-built.false made.ensures.list
 
-settled-requires-2 : tie.Need-settled-requires-2
+settled-requires-2 : tie.Need-settled-requires-then-found
 settled-requires-2 c κs = search rules
 
-same-length-3 : tie.Need-same-length-3
+same-length-3 : tie.Need-shape_of-work-then-found
 same-length-3 c = search rules
 
-same-length-4 : tie.Need-same-length-4
+same-length-4 : tie.Need-shape_of-seen-then-found
 same-length-4 c = search rules
 
-returns-2 : tie.Need-returns-2
+returns-2 : tie.Need-returns-then-found
 returns-2 c =
-    let d = c.before.before in
-    let f = d.before in
-    let l = f.before.before.before.before.before in
-    let left = f.before.before.if1.false in
-    let held = l.next_list.ensures.list in
-    let a = l.before.before.before.args in
-    let (z, e, s) = found_some a.n a.parts _ (rw (held_list held left).1 at f.first_common_lem.ensures) d.if2.true in
-    rw (c.settled2.ensures, c.before.reached.ensures, s) (met (held_open held left) e)
+    let left = c.if-built.false in
+    let held = c.next_list-built.ensures.list in
+    let a = c.args in
+    let (z, e, s) = found_some a.n a.parts _ (rw (held_list held left).1 at c.first_common-found.ensures) c.if-found.true in
+    rw (c.settled-then-found.ensures, c.reached-answer.ensures, s) (met (held_open held left) e)
 
-plain-requires-2 : tie.Need-plain-requires-2
+plain-requires-2 : tie.Need-plain-answer-requires-2
 plain-requires-2 c κs = search rules
 
-same-length-5 : tie.Need-same-length-5
+same-length-5 : tie.Need-shape_of-work
 same-length-5 c = search rules
 
-same-length-6 : tie.Need-same-length-6
+same-length-6 : tie.Need-shape_of-seen
 same-length-6 c = search rules
 
-returns-3 : tie.Need-returns-3
+returns-3 : tie.Need-returns
 returns-3 c =
-    let f = c.before.before in
-    let l = f.before.before.before.before.before in
-    let left = f.before.before.if1.false in
-    let held = l.next_list.ensures.list in
+    let left = c.if-built.false in
+    let held = c.next_list-built.ensures.list in
     let (n, is) = held_list held left in
-    let b = l.before.before.before in
-    let a = b.args in
-    let old = source_same l.next_list.new.0 b.requires.building l.next_list.ensures in
-    let e = found_none a.n a.parts _ (rw is at f.first_common_lem.ensures) c.before.if2.false in
-    rw (c.plain2.ensures, n) (on (held_open held left) e (record { old = old; new = rw n at is }))
+    let a = c.args in
+    let old = source_same c.next_list-built.new.work c.requires.building c.next_list-built.ensures in
+    let e = found_none a.n a.parts _ (rw is at c.first_common-found.ensures) c.if-found.false in
+    rw (c.plain-answer-2.ensures, n) (on (held_open held left) e (record { old = old; new = rw n at is }))
 
 pub one_cycle_spec : {M : Type 1} → statement M
 one_cycle_spec =

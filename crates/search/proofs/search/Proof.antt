@@ -13,20 +13,19 @@ use Rattle.search.proofs.search.Tie as tie
 made : (size needed : ℕ) → needed ≤ size → needed ≤ length (replicate size (pos 0))
 made size needed h = rw length-replicate h
 
-search-with-requires : tie.Need-search-with-requires
+search-with-requires : tie.Need-search_with-requires
 unfolding sets_met
-search-with-requires c κs = let b = c.before.before in (b.before.requires, made _ _ (small_room b.if1.true))
+search-with-requires c κs = (c.requires, made _ _ (small_room c.if-n-le-SMALL.true))
 
-search-with-requires-2 : tie.Need-search-with-requires-2
+search-with-requires-2 : tie.Need-search_with-requires-then-n-le-MIDDLE
 unfolding sets_met
-search-with-requires-2 c κs = let b = c.before.before in (b.before.before.requires, made _ _ (middle_room b.if2.true))
+search-with-requires-2 c κs = (c.requires, made _ _ (middle_room c.if-n-le-MIDDLE.true))
 
-search-with-requires-3 : tie.Need-search-with-requires-3
+search-with-requires-3 : tie.Need-search_with-requires-2
 unfolding sets_met
 search-with-requires-3 c κs =
-    let b = c.before.before in
-    let q = b.before.before.requires in
-    (q, made _ _ (large_room (let h = b.if2.false in omega arith) q.table.departures.few))
+    let q = c.requires in
+    (q, made _ _ (large_room (let h = c.if-n-le-MIDDLE.false in omega arith) q.table.departures.few))
 
 pub search_spec : {M : Type 1} → statement M
 search_spec =
