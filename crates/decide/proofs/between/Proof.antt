@@ -17,18 +17,16 @@ use Rattle.decide.proofs.between.Tie as tie
 sets_fit : {n : ℕ} → Departures n → suc n * zone_size n ≤ suc most_departures * most_numbers
 sets_fit {n} d = let k : suc n ≤ suc most_departures = let h = d.few in omega arith in mul-le-mul k (zone_fits d)
 
-lent : (c : tie.After-table-size) → let size = c.table-size.result in length (take size (replicate most_times (pos 0))) ≡ size
-lent c = length-take-le _ (replicate most_times (pos 0)) (omega (arith, c.table-size.ensures, table_fits c.before.requires.zones.table.departures))
+lent : (c : tie.After-table_size-size) → let size = c.table_size-size.result in length (take size (replicate most_times (pos 0))) ≡ size
+lent c = length-take-le _ (replicate most_times (pos 0)) (omega (arith, c.table_size-size.ensures, table_fits c.requires.zones.table.departures))
 
-from-to-requires : tie.Need-from-to-requires
+from-to-requires : tie.Need-from_to-requires
 from-to-requires c κs =
-    let t = c.before.before.before in
-    let s = t.before in
-    let d = s.requires.zones.table.departures in
-    (s.requires, record { sets_size = sets_fit d; tables_size = omega (arith, table_fits d); kept_size = lent t ∙ t.table-size.ensures })
+    let d = c.requires.zones.table.departures in
+    (c.requires, record { sets_size = sets_fit d; tables_size = omega (arith, table_fits d); kept_size = lent c.before.before.before ∙ c.table_size-size.ensures })
 
 returns : tie.Need-returns
-returns c = c.before.before.before.from-to.ensures
+returns c = c.from_to.ensures
 
 pub between_spec : {M : Type 1} → statement M
 between_spec =
@@ -37,7 +35,7 @@ between_spec =
     (λ c κs. c.requires.zones.table.departures.few)
     (λ c. search rules)
     (λ c. search rules)
-    (λ c. omega (arith, c.before.before.table-size.ensures, table_fits c.before.before.before.requires.zones.table.departures))
+    (λ c. omega (arith, c.table_size-size.ensures, table_fits c.requires.zones.table.departures))
     (λ c. sym (lent c.before.before.before))
     from-to-requires
     returns)

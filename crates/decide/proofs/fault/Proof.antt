@@ -7,21 +7,19 @@ use Rattle.decisions.specs.Decide.{decide_fault}
 use Rattle.decide.proofs.fault.Statement.{statement}
 use Rattle.decide.proofs.fault.Tie as tie
 
-returns : tie.Need-returns
+returns : tie.Need-returns-in-Refused
 unfolding decide_fault
-returns c = let d = c.before in first_refused _ d.before.before.case-fault.ensures _ d.f.given.1
+returns c = first_refused _ c.case_fault.ensures _ c.in-Refused.is
 
-returns-2 : tie.Need-returns-2
+returns-2 : tie.Need-returns-then-outside
 unfolding decide_fault judged_by
 returns-2 c =
-    let t = c.before.before in
-    rw (← (first_accepted _ t.before.before.case-fault.ensures _ t.enum_told.given.1)) (simp (sym c.before.outside.ensures ∙ c.if1.true))
+    rw (← (first_accepted _ c.case_fault.ensures _ c.in_default.is)) (simp (sym c.outside.ensures ∙ c.if-outside.true))
 
-returns-3 : tie.Need-returns-3
+returns-3 : tie.Need-returns
 unfolding decide_fault judged_by
 returns-3 c =
-    let t = c.before.before in
-    rw (← (first_accepted _ t.before.before.case-fault.ensures _ t.enum_told.given.1)) (simp (sym c.before.outside.ensures ∙ c.if1.false))
+    rw (← (first_accepted _ c.case_fault.ensures _ c.in_default.is)) (simp (sym c.outside.ensures ∙ c.if-outside.false))
 
 pub fault_spec : {M : Type 1} → statement M
 fault_spec =

@@ -14,57 +14,44 @@ use Rattle.decide.proofs.next_power.Statement.{statement}
 use Rattle.decide.proofs.next_power.Tie as tie
 
 -- the front of the tables
-room : (c : tie.After-advance) → c.before.before.table-size.result ≤ length c.advance.new.1.0
+room : (c : tie.After-advance) → c.table_size-size.result ≤ length c.advance.new.tables
 room c =
-    let z = c.before.before in
-    omega (arith, z.table-size.ensures, z.before.requires.advancing.room, c.advance.auto.1.0)
+    omega (arith, c.table_size-size.ensures, c.requires.advancing.room, c.advance.auto.tables)
 
-long : (c : tie.After-advance) → let size = c.before.before.table-size.result in length (take size c.advance.new.1.0) ≡ size
-long c = length-take-le _ c.advance.new.1.0 (room c)
+long : (c : tie.After-advance) → let size = c.table_size-size.result in length (take size c.advance.new.tables) ≡ size
+long c = length-take-le _ c.advance.new.tables (room c)
 
-alike-requires : tie.Need-alike-requires
+alike-requires : tie.Need-alike-again-requires
 alike-requires c κs =
-    let a = c.before.before.before in
-    let z = a.before.before in
-    z.before.requires.kept_size ∙ sym (long a ∙ z.table-size.ensures)
+    c.requires.kept_size ∙ sym (long c.before ∙ c.table_size-size.ensures)
 
-put-front-requires : tie.Need-put-front-requires
+put-front-requires : tie.Need-put_front-requires
 put-front-requires c κs =
-    let a = c.before.before.before.before.before.before.before in
-    let z = a.before.before in
-    omega (arith, long a, z.table-size.ensures, z.before.requires.kept_size)
+    omega (arith, long c.before.before.before.before, c.table_size-size.ensures, c.requires.kept_size)
 
 -- the comparison
-compared : (c : tie.After-alike) →
-    let a = c.before.before.before.before in
-    let s = a.before.before.before.args in
-    c.alike.result ≡ again (times_in s.kept.now) (front s.n a.advance.new.1.0)
+compared : (c : tie.After-alike-again) →
+    let s = c.args in
+    c.alike-again.result ≡ again (times_in s.kept.now) (front s.n c.advance.new.tables)
 unfolding again
-compared c = rw c.before.before.before.before.before.before.table-size.ensures at c.alike.ensures
+compared c = rw c.table_size-size.ensures at c.alike-again.ensures
 
-returns : tie.Need-returns
+returns : tie.Need-returns-then-k-until
 unfolding renewed
 returns c =
-    let p = c.before in
-    let t = p.before.before.before in
-    let k = t.before in
-    let a = k.before.before.before.before in
-    let z = a.before.before in
-    let s = z.before in
-    let size = table_size s.args.n in
-    let full : length p.put_front.new.0 ≤ size = omega (arith, p.put_front.auto.0, s.requires.kept_size) in
-    let held = rw (long a, z.table-size.ensures, take_all size p.put_front.new.0 full) at p.put_front.ensures in
+    let size = table_size c.args.n in
+    let full : length c.put_front.new.tables ≤ size = omega (arith, c.put_front.auto.tables, c.requires.kept_size) in
+    let held = rw (long c.before.before.before.before.before.before, c.table_size-size.ensures, take_all size c.put_front.new.tables full) at c.put_front.ensures in
     record {
-      power = a.advance.ensures;
-      repeats = compared k;
-      keeps = rw (eq-eqb _ _ t.if1.true, held);
+      power = c.advance.ensures;
+      repeats = compared c.before.before.before.before;
+      keeps = rw (eq-eqb _ _ c.if-k-until.true, held);
     }
 
-returns-2 : tie.Need-returns-2
+returns-2 : tie.Need-returns
 unfolding renewed
 returns-2 c =
-    let k = c.before in
-    record { power = k.before.before.before.before.advance.ensures; repeats = compared k; keeps = rw (ne_eqb _ _ c.if1.false) }
+    record { power = c.advance.ensures; repeats = compared c.before; keeps = rw (ne_eqb _ _ c.if-k-until.false) }
 
 pub next_power_spec : {M : Type 1} → statement M
 next_power_spec =
@@ -73,10 +60,10 @@ next_power_spec =
     (λ c κs. search rules)
     (λ c κs. search rules)
     (λ c. search rules)
-    (λ c. sym (long c.before.before.before))
+    (λ c. sym (long c.before))
     alike-requires
     (λ c. search rules)
-    (λ c. sym (long c.before.before.before.before.before.before.before))
+    (λ c. sym (long c.before.before.before.before))
     put-front-requires
     (λ c. search rules)
     (λ c. search rules)

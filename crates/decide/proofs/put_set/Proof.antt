@@ -12,27 +12,26 @@ use Rattle.starts.specs.Numbers.{bound_in, bounds_in}
 use Rattle.decide.proofs.put_set.Statement.{statement}
 use Rattle.decide.proofs.put_set.Tie as tie
 
-abbrev invariant-loop : tie.invariant-loop
+abbrev invariant-loop : tie.invariant-loop-p
 invariant-loop sets₀ set p₀ p-end sets p = (p ≤ length set) × (bounds_in (take p sets) ≡ bounds_in (take p set)) × (length sets ≡ length sets₀)
 
-abbrev decreases-loop : tie.decreases-loop
+abbrev decreases-loop : tie.decreases-loop-p
 decreases-loop sets₀ set p₀ p-end sets p = length set - p
 
-loop-again : tie.Need-loop-preserved invariant-loop decreases-loop
+loop-again : tie.Need-loop-p-preserved invariant-loop decreases-loop
 unfolding bounds_in
 loop-again c =
-    let l = c.before.before.loop in
-    let s = c.before.before.before in (
+    let l = c.loop-p in (
       omega arith,
-      next_in bound_in bound_in l.sets s.args.set.now l.p _ (pos 0) (omega arith) (omega arith) l.invariant.1
-          (ap bound_in (to_z-of_z w64 _ (record { sfits = c.v.given }))),
+      next_in bound_in bound_in l.sets c.args.set.now l.p _ (pos 0) (omega arith) (omega arith) l.invariant.1
+          (ap bound_in (to_z-of_z w64 _ (record { sfits = c.v-1.given }))),
       length-set l.sets l.p _ ∙ l.invariant.2,
     )
 
 returns : tie.Need-returns invariant-loop decreases-loop
 returns c =
-    let l = c.before.loop in
-    let set = c.before.before.args.set.now in
+    let l = c.loop-p in
+    let set = c.args.set.now in
     let e : l.p ≡ length set = omega arith in
     (rw e at l.invariant.1) ∙ ap bounds_in (take-length set)
 
@@ -50,5 +49,5 @@ put_set_spec =
     (λ c. omega arith)
     (λ c. omega arith)
     loop-again
-    (λ c. c.before.loop.invariant.2)
+    (λ c. c.loop-p.invariant.2)
     returns)

@@ -16,31 +16,27 @@ use Rattle.decide.proofs.reached.Statement.{statement}
 use Rattle.decide.proofs.reached.Tie as tie
 
 -- it lies within the sets
-inside : (c : tie.After-zone-size) → let s = c.before in s.args.n * c.zone_size_lem.result + c.zone_size_lem.result ≤ length s.args.sets.now
+inside : (c : tie.After-zone_size-size) → c.args.n * c.zone_size-size.result + c.zone_size-size.result ≤ length c.args.sets.now
 inside c =
-    let s = c.before in
-    rw c.zone_size_lem.ensures (omega (arith, s.requires.size, suc-mul s.args.n (zone_size s.args.n)))
+    rw c.zone_size-size.ensures (omega (arith, c.requires.size, suc-mul c.args.n (zone_size c.args.n)))
 
-pick-requires : tie.Need-pick-requires
+pick-requires : tie.Need-pick-start-requires
 pick-requires c κs =
-    let z = c.before in
-    let s = z.before in
-    let size = zone_size s.args.n in
-    let in-sets = rw z.zone_size_lem.ensures at (inside z) in (
-      s.requires.departures,
-      rw (z.zone_size_lem.ensures, lent_at size s.args.n s.args.sets.now) (record {
-        few = omega (arith, s.requires.departures.few);
-        size = length_numbers size s.args.sets.now s.args.n in-sets;
+    let size = zone_size c.args.n in
+    let in-sets = rw c.zone_size-size.ensures at (inside c.before) in (
+      c.requires.departures,
+      rw (c.zone_size-size.ensures, lent_at size c.args.n c.args.sets.now) (record {
+        few = omega (arith, c.requires.departures.few);
+        size = length_numbers size c.args.sets.now c.args.n in-sets;
       }),
     )
 
 returns : tie.Need-returns
 unfolding set_at
 returns c =
-    let z = c.before.before in
-    let s = z.before.args in
+    let s = c.args in
     let size = zone_size s.n in
-    let there = rw (z.zone_size_lem.ensures, lent_at size s.n s.sets.now) at c.pick.ensures in
+    let there = rw (c.zone_size-size.ensures, lent_at size s.n s.sets.now) at c.pick-start.ensures in
     ap (λ (start : List Seconds). record { finding = finding.Reached (cycle_number s.k); parts = s.parts; start = start }) there
 
 pub reached_spec : {M : Type 1} → statement M
@@ -50,7 +46,7 @@ reached_spec =
     (λ c κs. search rules)
     (λ c. omega (arith, inside c))
     (λ c. omega (arith, inside c))
-    (λ c. omega (arith, inside c, c.before.well_formed.0))
+    (λ c. omega (arith, inside c, c.well_formed.0))
     (λ c. search rules)
     (λ c. search rules)
     inside

@@ -9,14 +9,14 @@ use Rattle.preview.proofs.change.Statement.{statement}
 use Rattle.preview.proofs.change.Tie as tie
 
 -- the entry is there
-in_table : (c : tie.After-target) → let a = c.before.before.before.before.args in time_place a.case.n a.row a.column < most_times
-in_table c = place_small _ _ _ c.before.before.before.before.requires
+in_table : (c : tie.After-target-1) → let a = c.args in time_place a.case.n a.row a.column < most_times
+in_table c = place_small _ _ _ c.requires
 
-sub-k : tie.Need-overflow-sub-k
-sub-k c = ((no_change_fault _ _ _).0 c.before.before.before.before.requires).1.row_from
+sub-k : tie.Need-overflow_sub-k
+sub-k c = ((no_change_fault _ _ _).0 c.requires).1.row_from
 
-sub-k-2 : tie.Need-overflow-sub-k-2
-sub-k-2 c = ((no_change_fault _ _ _).0 c.before.before.before.before.requires).1.column_from
+sub-k-2 : tie.Need-overflow_sub-k-2
+sub-k-2 c = ((no_change_fault _ _ _).0 c.requires).1.column_from
 
 returns : tie.Need-returns
 unfolding changed

@@ -6,17 +6,16 @@ use Rattle.judge.proofs.Laws.{first_refused, first_accepted}
 use Rattle.preview.proofs.change_fault.Statement.{statement}
 use Rattle.preview.proofs.change_fault.Tie as tie
 
-returns : tie.Need-returns
+returns : tie.Need-returns-in-Refused
 unfolding change_fault
 returns c =
-    let is = c.enum_told.given.1 in
-    is ∙ first_refused _ c.before.before.before.case-fault.ensures _ is
+    let is = c.in-Refused.is in
+    is ∙ first_refused _ c.case_fault-own.ensures _ is
 
-returns-2 : tie.Need-returns-2
+returns-2 : tie.Need-returns
 unfolding change_fault
 returns-2 c =
-    let e = c.before.before in
-    e.entry-fault.ensures ∙ first_accepted _ e.before.case-fault.ensures _ c.enum-told2.given.1
+    c.entry_fault-entry.ensures ∙ first_accepted _ c.case_fault-own.ensures _ c.in_default.is
 
 pub change_fault_spec : {M : Type 1} → statement M
 change_fault_spec =

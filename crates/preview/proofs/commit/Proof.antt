@@ -8,34 +8,31 @@ use Rattle.judge.proofs.Laws.{accepted, refused_for}
 use Rattle.preview.proofs.commit.Statement.{statement}
 use Rattle.preview.proofs.commit.Tie as tie
 
-returns : tie.Need-returns
+returns : tie.Need-returns-in-Refused
 unfolding commit_fault
 returns c =
-    let d = c.before.before in
-    let is = c.enum_told.given.1 in
-    let fault = refused_for _ d.change-fault.ensures is in
+    let is = c.in-Refused.is in
+    let fault = refused_for _ c.change_fault-before.ensures is in
     rw is (sym (kept _ _ _ _ (simp fault)))
 
 -- nothing speaks against the change
-clean : (c : tie.After-enum-told2) → let a = c.before.before.before.args in change_fault a.case a.row a.column ≡ none
-clean c = accepted _ c.before.before.change-fault.ensures c.enum-told2.given.1
+clean : (c : tie.In_default) → let a = c.args in change_fault a.case a.row a.column ≡ none
+clean c = accepted _ c.change_fault-before.ensures c.in_default.is
 
-returns-2 : tie.Need-returns-2
+returns-2 : tie.Need-returns-in-Refused-judged
 unfolding commit_fault
 returns-2 c =
-    let d = c.before.before in
-    let is = c.enum-told3.given.1 in
-    let fault = refused_for _ d.case-fault.ensures is in
-    rw is (sym (kept _ _ _ _ (simp (clean d.before.before) (rw d.before.change.ensures at fault))))
+    let is = c.in-Refused-judged.is in
+    let fault = refused_for _ c.case_fault-judged.ensures is in
+    rw is (sym (kept _ _ _ _ (simp (clean c.before.before.before) (rw c.change-copy.ensures at fault))))
 
-returns-3 : tie.Need-returns-3
+returns-3 : tie.Need-returns
 unfolding commit_fault
 returns-3 c =
-    let d = c.before.before in
-    let is = c.enum-told4.given.1 in
-    let own = accepted _ d.case-fault.ensures is in
-    let copy = d.before.change.ensures in
-    rw (is, copy) (sym (committed _ _ _ _ (simp (clean d.before.before) (rw copy at own))))
+    let is = c.in_default-judged.is in
+    let own = accepted _ c.case_fault-judged.ensures is in
+    let copy = c.change-copy.ensures in
+    rw (is, copy) (sym (committed _ _ _ _ (simp (clean c.before.before.before) (rw copy at own))))
 
 pub commit_spec : {M : Type 1} → statement M
 commit_spec =

@@ -9,20 +9,16 @@ use Rattle.preview.proofs.preview.Statement.{statement}
 use Rattle.preview.proofs.preview.Tie as tie
 
 -- nothing speaks against the change
-clean : (c : tie.After-enum-told) → let a = c.before.before.before.args in change_fault a.case a.row a.column ≡ none
-clean c = accepted _ c.before.before.change-fault.ensures c.enum_told.given.1
+clean : (c : tie.In-Accepted) → let a = c.args in change_fault a.case a.row a.column ≡ none
+clean c = accepted _ c.change_fault.ensures c.in-Accepted.is
 
-returns : tie.Need-returns
+returns : tie.Need-returns-in-Refused
 returns c =
-    let f = c.before.before in
-    let d = f.before.before in
-    refused _ _ _ _ _ _ (refused_for _ d.change-fault.ensures f.fault.given.1) c.plain.ensures refl
+    refused _ _ _ _ _ _ (refused_for _ c.change_fault.ensures c.in-Refused.is) c.plain.ensures refl
 
-returns-2 : tie.Need-returns-2
+returns-2 : tie.Need-returns-in-Accepted
 returns-2 c =
-    let v = c.before in
-    let d = v.before.before in
-    answered _ _ _ _ _ _ (clean d.before) (rw d.change.ensures at v.verdict.ensures)
+    answered _ _ _ _ _ _ (clean c.before.before.before.before) (rw c.change-copy.ensures at c.verdict.ensures)
 
 pub preview_spec : {M : Type 1} → statement M
 preview_spec =

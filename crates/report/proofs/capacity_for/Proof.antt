@@ -9,5 +9,5 @@ use Rattle.report.proofs.capacity_for.Tie as tie
 pub capacity_for_spec : {M : Type 1} → statement M
 capacity_for_spec =
     tie.close (tie.spec
-    (λ c. rw (le-leb c.before.args.n few_departures c.if1.true) refl)
-    (λ c. rw (lt-leb c.before.args.n few_departures (omega (arith, c.if1.false))) refl))
+    (λ c. rw (le-leb c.args.n few_departures c.if-n-le-FEW.true) refl)
+    (λ c. rw (lt-leb c.args.n few_departures (omega (arith, c.if-n-le-FEW.false))) refl))

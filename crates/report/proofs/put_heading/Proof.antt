@@ -6,25 +6,24 @@ use Rattle.report.specs.Text.{heading}
 use Rattle.report.proofs.put_heading.Statement.{statement}
 use Rattle.report.proofs.put_heading.Tie as tie
 
-returns : tie.Need-returns
+returns : tie.Need-returns-in-Reached
 unfolding heading
-returns c = rw c.before.before.before.verdict.given.1 c.put-reached.ensures
+returns c = rw c.in-Reached.is c.put_reached.ensures
 
-returns-2 : tie.Need-returns-2
+returns-2 : tie.Need-returns-in-Clear
 unfolding heading
-returns-2 c = rw c.before.before.before.before.verdict2.given.1 (record { puts = c.put-numbered.ensures.puts; within = omega arith })
+returns-2 c = rw c.in-Clear.is (record { puts = c.put_numbered.ensures.puts; within = omega arith })
 
-returns-3 : tie.Need-returns-3
+returns-3 : tie.Need-returns-in-Never
 unfolding heading
-returns-3 c = rw c.before.before.before.enum_told.given.1 (record { puts = c.word.ensures; within = omega arith })
+returns-3 c = rw c.in-Never.is (record { puts = c.word.ensures; within = omega arith })
 
-returns-4 : tie.Need-returns-4
+returns-4 : tie.Need-returns-in-Refused
 unfolding heading
 returns-4 c =
-    let b = c.before.before.before.before in
-    let first = rw b.before.number.ensures at b.put-numbered2.ensures.puts in
-    let last = rw c.before.returned.ensures at c.put-numbered3.ensures.puts in
-    rw b.before.before.before.before.before.verdict3.given.1 (record { puts = puts_then first last; within = omega arith })
+    let first = rw c.number.ensures at c.put_numbered-next.ensures.puts in
+    let last = rw c.returned.ensures at c.put_numbered-in-Refused.ensures.puts in
+    rw c.in-Refused.is (record { puts = puts_then first last; within = omega arith })
 
 pub put_heading_spec : {M : Type 1} → statement M
 put_heading_spec =

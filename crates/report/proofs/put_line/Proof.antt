@@ -6,10 +6,10 @@ use Rattle.report.specs.Text.{line}
 use Rattle.report.proofs.put_line.Statement.{statement}
 use Rattle.report.proofs.put_line.Tie as tie
 
-number-requires : tie.Need-number-requires
-number-requires c κs = omega (arith, number_short c.before.args.cycle (omega arith))
+number-requires : tie.Need-number-next-requires
+number-requires c κs = omega (arith, number_short c.args.cycle (omega arith))
 
-put-fields-requires : tie.Need-put-fields-requires
+put-fields-requires : tie.Need-put_fields-next-requires
 put-fields-requires c κs = omega arith
 
 byte-requires : tie.Need-byte-requires
@@ -18,9 +18,7 @@ byte-requires c κs = omega arith
 returns : tie.Need-returns
 unfolding line
 returns c =
-    let f = c.before.before in
-    let n = f.before.before in
-    record { puts = puts_then (puts_then n.number.ensures.puts f.put-fields.ensures.puts) c.byte.ensures; within = omega arith }
+    record { puts = puts_then (puts_then c.number-next.ensures.puts c.put_fields-next.ensures.puts) c.byte.ensures; within = omega arith }
 
 pub put_line_spec : {M : Type 1} → statement M
 put_line_spec = tie.close (tie.spec number-requires put-fields-requires byte-requires returns)

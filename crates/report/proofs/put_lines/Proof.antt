@@ -15,40 +15,38 @@ use Rattle.report.proofs.Parts.{lines_next}
 use Rattle.report.proofs.put_lines.Statement.{statement}
 use Rattle.report.proofs.put_lines.Tie as tie
 
-abbrev invariant-loop : tie.invariant-loop
+abbrev invariant-loop : tie.invariant-loop-j
 invariant-loop out₀ at case start count n next₀ j₀ out next j = (j ≤ count) × PutsWithin (line_size * j) out₀ at (lines (parts_of (network case)) case start j) next out
 
-abbrev decreases-loop : tie.decreases-loop
+abbrev decreases-loop : tie.decreases-loop-j
 decreases-loop out₀ at case start count n next₀ j₀ out next j = count - j
 
-loop-holds : tie.Need-loop-init invariant-loop decreases-loop
+loop-holds : tie.Need-loop-j-init invariant-loop decreases-loop
 unfolding lines flatten tabulate
 loop-holds c = (omega arith, record { puts = puts_nothing; within = omega arith })
 
-run-parts-requires : tie.Need-run-parts-requires invariant-loop decreases-loop
+run-parts-requires : tie.Need-run_parts-run-requires invariant-loop decreases-loop
 run-parts-requires c κs = search rules
 
-put-line-requires : tie.Need-put-line-requires invariant-loop decreases-loop
+put-line-requires : tie.Need-put_line-next-requires invariant-loop decreases-loop
 put-line-requires c κs = omega arith
 
-add-j : tie.Need-overflow-add-j invariant-loop decreases-loop
+add-j : tie.Need-overflow_step-j invariant-loop decreases-loop
 add-j c = omega arith
 
-loop-less : tie.Need-loop-smaller invariant-loop decreases-loop
+loop-less : tie.Need-loop-j-smaller invariant-loop decreases-loop
 loop-less c = omega arith
 
-loop-again : tie.Need-loop-preserved invariant-loop decreases-loop
+loop-again : tie.Need-loop-j-preserved invariant-loop decreases-loop
 loop-again c =
-    let r = c.before.before.before in
-    let l = r.before.before in
-    let a = l.before.args in
-    let more = puts_then l.loop.invariant.1.puts (rw r.run-parts.ensures at c.put-line.ensures.puts) in
-    (omega arith, record { puts = rw (lines_next _ a.case a.start l.loop.j) more; within = omega arith })
+    let a = c.args in
+    let more = puts_then c.loop-j.invariant.1.puts (rw c.run_parts-run.ensures at c.put_line-next.ensures.puts) in
+    (omega arith, record { puts = rw (lines_next _ a.case a.start c.loop-j.j) more; within = omega arith })
 
 returns : tie.Need-returns invariant-loop decreases-loop
 returns c =
-    let e : c.before.loop.j ≡ c.before.before.args.count = omega arith in
-    rw e at c.before.loop.invariant.1
+    let e : c.loop-j.j ≡ c.args.count = omega arith in
+    rw e at c.loop-j.invariant.1
 
 pub put_lines_spec : {M : Type 1} → statement M
 put_lines_spec = tie.close (tie.spec invariant-loop decreases-loop loop-holds run-parts-requires put-line-requires add-j loop-less loop-again returns)

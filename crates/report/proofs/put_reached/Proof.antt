@@ -7,19 +7,17 @@ use Rattle.report.specs.Text.{of_parts}
 use Rattle.report.proofs.put_reached.Statement.{statement}
 use Rattle.report.proofs.put_reached.Tie as tie
 
-returns : tie.Need-returns
+returns : tie.Need-returns-then-parts-le1
 unfolding of_parts
 returns c =
-    let p = c.before in
-    rw (le-ltb 1 p.before.before.before.args.parts (omega arith))
-    (record { puts = puts_then p.put-numbered.ensures.puts puts_nothing; within = omega arith })
+    rw (le-ltb 1 c.args.parts (omega arith))
+    (record { puts = puts_then c.put_numbered-next.ensures.puts puts_nothing; within = omega arith })
 
-returns-2 : tie.Need-returns-2
+returns-2 : tie.Need-returns
 unfolding of_parts
 returns-2 c =
-    let p = c.before.before.before.before in
-    rw (lt-ltb 1 p.before.before.before.args.parts (omega arith))
-    (record { puts = puts_then p.put-numbered.ensures.puts c.put-numbered2.ensures.puts; within = omega arith })
+    rw (lt-ltb 1 c.args.parts (omega arith))
+    (record { puts = puts_then c.put_numbered-next.ensures.puts c.put_numbered.ensures.puts; within = omega arith })
 
 pub put_reached_spec : {M : Type 1} → statement M
 put_reached_spec =

@@ -23,59 +23,49 @@ abbrev zones : List ℕ → ℕ
 zones s = program_zones (unpacked (parse s)).case.n
 
 -- the answer, with Z and the length of the workspace as numbers
-answer_is : (c : tie.After-verdict-packed)
-    → let s = c.before.before.before.before.before.before.args.bytes.now in c.verdict-packed.result ≡ answer_packed s (zones s) program_space
+answer_is : (c : tie.After-verdict_packed-answer)
+    → let s = c.args.bytes.now in c.verdict_packed-answer.result ≡ answer_packed s (zones s) program_space
 answer_is c =
-    let k = c.before.before in
-    let r = k.before.before in
-    let z = k.capacity-for.ensures ∙ ap (λ (u : Unpacked). program_zones u.case.n) r.read.ensures in
-    c.verdict-packed.ensures.answer ∙ ap₂ (answer_packed _) z (length-replicate program_space (pos 0))
+    let z = c.capacity_for-capacity.ensures ∙ ap (λ (u : Unpacked). program_zones u.case.n) c.read-read.ensures in
+    c.verdict_packed-answer.ensures.answer ∙ ap₂ (answer_packed _) z (length-replicate program_space (pos 0))
 
-slice-aggregate-verdict-packed : tie.Need-slice-aggregate-verdict-packed
+slice-aggregate-verdict-packed : tie.Need-slice_bounds-verdict_packed-end
 slice-aggregate-verdict-packed c = search rules
 
-verdict-packed-requires : tie.Need-verdict-packed-requires
+verdict-packed-requires : tie.Need-verdict_packed-answer-requires
 verdict-packed-requires c κs = search rules
 
-read-requires : tie.Need-read-requires
+read-requires : tie.Need-read-read-requires
 read-requires c κs = search rules
 
-put-heading-requires : tie.Need-put-heading-requires
+put-heading-requires : tie.Need-put_heading-next-requires
 put-heading-requires c κs = search rules
 
-byte-requires : tie.Need-byte-requires
+byte-requires : tie.Need-byte-next-requires
 byte-requires c κs = search rules
 
-capacity-for-requires : tie.Need-capacity-for-requires
+capacity-for-requires : tie.Need-capacity_for-capacity-requires
 capacity-for-requires c κs = search rules
 
-line-count-requires : tie.Need-line-count-requires
+line-count-requires : tie.Need-line_count-count-requires
 line-count-requires c κs = rw (answer_is c.before.before.before.before.before.before) (few _ _ program_space).cycles
 
-few_lines : (c : tie.After-line-count) → c.line-count.result ≤ most_lines
+few_lines : (c : tie.After-line_count-count) → c.line_count-count.result ≤ most_lines
 few_lines c = omega (arith, line-count-requires c.before tt)
 
-put-lines-requires : tie.Need-put-lines-requires
+put-lines-requires : tie.Need-put_lines-requires
 put-lines-requires c κs =
-    let a = c.before.before.before.before.before.before.before.before in
-    let r = a.before.before.before.before in
-    let s = r.before.before.args.bytes.now in
-    (rw r.read.ensures (few s (zones s) program_space).departures, omega (arith, few_lines c.before))
+    let s = c.args.bytes.now in
+    (rw c.read-read.ensures (few s (zones s) program_space).departures, omega (arith, few_lines c.before))
 
 returns : tie.Need-returns
 unfolding text answer_text
 returns c =
-    let l = c.before.before in
-    let b = l.before in
-    let h = b.before.before in
-    let a = h.before.before.before.before in
-    let r = a.before.before.before.before in
-    let start = r.before.before in
-    let s = start.args.bytes.now in
-    let put = puts_then (puts_then h.put-heading.ensures.puts b.byte.ensures) c.put-lines.ensures.puts in
-    let all : Puts start.args.out.now 0 (text s) c.put-lines.result c.put-lines.new.0
-    = rw (← (lines_parts s (zones s) program_space)) at (rw (l.line-count.ensures, answer_is a, r.read.ensures) at put) in
-    record { puts = all; within = omega (arith, few_lines l) }
+    let s = c.args.bytes.now in
+    let put = puts_then (puts_then c.put_heading-next.ensures.puts c.byte-next.ensures) c.put_lines.ensures.puts in
+    let all : Puts c.args.out.now 0 (text s) c.put_lines.result c.put_lines.new.out
+    = rw (← (lines_parts s (zones s) program_space)) at (rw (c.line_count-count.ensures, answer_is c.before.before.before.before.before.before.before.before.before, c.read-read.ensures) at put) in
+    record { puts = all; within = omega (arith, few_lines c.before.before) }
 
 pub report_spec : {M : Type 1} → statement M
 report_spec =

@@ -6,32 +6,28 @@ use Rattle.verdict.proofs.Plans.{never_plan, beyond_plan, no_plan, clock_plan}
 use Rattle.verdict.proofs.plan_of.Statement.{statement}
 use Rattle.verdict.proofs.plan_of.Tie as tie
 
-enum-known-repeated : tie.Need-enum-known-repeated
+enum-known-repeated : tie.Need-enum_known-repeated
 enum-known-repeated c = search rules
 
-sub-cycles : tie.Need-overflow-sub-cycles
-sub-cycles c = let r = c.before.before in r.before.before.before.requires.0 _ (ap repeat_read r.repeated.given.1)
+sub-cycles : tie.Need-overflow_sub-cycles
+sub-cycles c = c.requires.0 _ (ap repeat_read c.in-At.is)
 
-returns : tie.Need-returns
+returns : tie.Need-returns-then-cycles-horizon
 returns c =
-    let r = c.before.before.before.before in
-    let t = r.before.before in
-    never_plan t.before.args.horizon _ (ap repeat_read r.repeated.given.1) t.if1.true c.if2.true
+    never_plan c.args.horizon _ (ap repeat_read c.in-At.is) c.if-differences.true c.if-cycles-horizon.true
 
-enum_told : tie.Need-enum-told
+enum_told : tie.Need-enum_told-1
 enum_told c = search rules
 
-returns-2 : tie.Need-returns-2
+returns-2 : tie.Need-returns-else-cycles-horizon
 returns-2 c =
-    let r = c.before.before.before.before in
-    let t = r.before.before in
-    beyond_plan t.before.args.horizon _ (ap repeat_read r.repeated.given.1) t.if1.true c.if2.false
+    beyond_plan c.args.horizon _ (ap repeat_read c.in-At.is) c.if-differences.true c.if-cycles-horizon.false
 
-returns-3 : tie.Need-returns-3
-returns-3 c = no_plan c.before.before.before.args.horizon _ (ap repeat_read c.enum_told.given.1)
+returns-3 : tie.Need-returns-in_default
+returns-3 c = no_plan c.args.horizon _ (ap repeat_read c.in_default.is)
 
-returns-4 : tie.Need-returns-4
-returns-4 c = clock_plan c.before.args.horizon _ c.if1.false
+returns-4 : tie.Need-returns-else-differences
+returns-4 c = clock_plan c.args.horizon _ c.if-differences.false
 
 pub plan_of_spec : {M : Type 1} → statement M
 plan_of_spec =

@@ -26,150 +26,105 @@ sound c = case_of_lem c.args.case c.args.capacity (length c.args.work.now) c.req
 few : (c : tie.Start) → Departures c.args.case.n
 few c = departures c.args.case (sound c)
 
-table-size-requires : tie.Need-table-size-requires
+table-size-requires : tie.Need-table_size-count-requires
 table-size-requires c κs = (few c).few
 
-pattern-size-requires : tie.Need-pattern-size-requires
+pattern-size-requires : tie.Need-pattern_size-size-requires
 pattern-size-requires c κs = (few c.before).few
 
-times-in-requires : tie.Need-times-in-requires
+times-in-requires : tie.Need-times_in-times-requires
 times-in-requires c κs =
-    let t = c.before.before.before.before in
-    let a = t.before in
-    rw t.table-size.ensures (omega (arith, table_fits (few a)), times_in_limit a.args.case (sound a))
+    rw c.table_size-count.ensures (omega (arith, table_fits (few c.before.before.before.before.before)), times_in_limit c.args.case (sound c.before.before.before.before.before))
 
-bounds-in-requires : tie.Need-bounds-in-requires
+bounds-in-requires : tie.Need-bounds_in-start-requires
 bounds-in-requires c κs =
-    let p = c.before.before.before.before in
-    let a = p.before.before in
-    rw p.pattern_size_lem.ensures (pattern_fits (few a), start_in_limit a.args.case (sound a))
+    rw c.pattern_size-size.ensures (pattern_fits (few c.before.before.before.before.before.before), start_in_limit c.args.case (sound c.before.before.before.before.before.before))
 
-bounds-in-requires-2 : tie.Need-bounds-in-requires-2
+bounds-in-requires-2 : tie.Need-bounds_in-target-requires
 bounds-in-requires-2 c κs =
-    let p = c.before.before.before.before.before in
-    let a = p.before.before in
-    rw p.pattern_size_lem.ensures (pattern_fits (few a), target_in_limit a.args.case (sound a))
+    rw c.pattern_size-size.ensures (pattern_fits (few c.before.before.before.before.before.before.before), target_in_limit c.args.case (sound c.before.before.before.before.before.before.before))
 
 -- the case in memory
-in_memory : (c : tie.After-bounds-in2) →
-    let b = c.before in
-    let t = b.before in
-    CaseIn t.before.before.before.before.before.before.args.case t.times_in_lem.result b.bounds-in.result c.bounds-in2.result
+in_memory : (c : tie.After-bounds_in-target) →
+    CaseIn c.args.case c.times_in-times.result c.bounds_in-start.result c.bounds_in-target.result
 in_memory c =
-    let b = c.before in
-    let t = b.before in
-    let p = t.before.before.before.before in
     record {
-      times_in_lem = rw p.before.table-size.ensures at t.times_in_lem.ensures;
-      start_in_lem = rw p.pattern_size_lem.ensures at b.bounds-in.ensures;
-      target_in = rw p.pattern_size_lem.ensures at c.bounds-in2.ensures;
+      times_in_lem = rw c.table_size-count.ensures at c.times_in-times.ensures;
+      start_in_lem = rw c.pattern_size-size.ensures at c.bounds_in-start.ensures;
+      target_in = rw c.pattern_size-size.ensures at c.bounds_in-target.ensures;
     }
 
 -- the parts of the arrays that are lent
-array-share-prefix-times : tie.Need-array-share-prefix-times
+array-share-prefix-times : tie.Need-slice_bounds-times-end
 array-share-prefix-times c =
-    let t = c.before.before in
-    let z = t.before.before.before.before.before in
-    table_room (few z.before) t.times_in_lem.result t.times_in_lem.ensures.1 z.table-size.ensures
+    table_room (few c.before.before.before.before.before.before.before.before) c.times_in-times.result c.times_in-times.ensures.1 c.table_size-count.ensures
 
-slice-aggregate-times : tie.Need-slice-aggregate-times
+slice-aggregate-times : tie.Need-slice_bounds-times-end-2
 slice-aggregate-times c = sym (length-take-le _ _ (array-share-prefix-times c.before))
 
-array-share-prefix-start : tie.Need-array-share-prefix-start
+array-share-prefix-start : tie.Need-slice_bounds-start-end
 array-share-prefix-start c =
-    let b = c.before.before in
-    let p = b.before.before.before.before.before in
-    pattern_room (few p.before.before) b.bounds-in.result b.bounds-in.ensures.1 p.pattern_size_lem.ensures
+    pattern_room (few c.before.before.before.before.before.before.before.before.before) c.bounds_in-start.result c.bounds_in-start.ensures.1 c.pattern_size-size.ensures
 
-slice-aggregate-start : tie.Need-slice-aggregate-start
+slice-aggregate-start : tie.Need-slice_bounds-start-end-2
 slice-aggregate-start c = sym (length-take-le _ _ (array-share-prefix-start c.before))
 
-array-share-prefix-target : tie.Need-array-share-prefix-target
+array-share-prefix-target : tie.Need-slice_bounds-target-end
 array-share-prefix-target c =
-    let m = c.before.before in
-    let p = m.before.before.before.before.before.before in
-    pattern_room (few p.before.before) m.bounds-in2.result m.bounds-in2.ensures.1 p.pattern_size_lem.ensures
+    pattern_room (few c.before.before.before.before.before.before.before.before.before.before) c.bounds_in-target.result c.bounds_in-target.ensures.1 c.pattern_size-size.ensures
 
-slice-aggregate-target : tie.Need-slice-aggregate-target
+slice-aggregate-target : tie.Need-slice_bounds-target-end-2
 slice-aggregate-target c = sym (length-take-le _ _ (array-share-prefix-target c.before))
 
-differences-requires : tie.Need-differences-requires
+differences-requires : tie.Need-differences-free-requires
 differences-requires c κs =
-    let m = c.before.before.before in
-    let b = m.before in
-    let p = b.before.before.before.before.before in
-    let d = few p.before.before in (
-      in_pattern d b.bounds-in.result b.bounds-in.ensures.1 p.pattern_size_lem.ensures,
-      in_pattern d m.bounds-in2.result m.bounds-in2.ensures.1 p.pattern_size_lem.ensures,
+    let d = few c.before.before.before.before.before.before.before.before.before.before.before in (
+      in_pattern d c.bounds_in-start.result c.bounds_in-start.ensures.1 c.pattern_size-size.ensures,
+      in_pattern d c.bounds_in-target.result c.bounds_in-target.ensures.1 c.pattern_size-size.ensures,
     )
 
-first-repeat-requires : tie.Need-first-repeat-requires
+first-repeat-requires : tie.Need-first_repeat-repeated-requires
 first-repeat-requires c κs =
-    let m = c.before.before.before.before in
-    let t = m.before.before.before.before.before.before.before in
-    let a = t.before in
-    rw t.table-size.ensures (powers_ready a.args.case a.args.capacity _ a.requires (in_memory m))
+    rw c.table_size-count.ensures (powers_ready c.args.case c.args.capacity _ c.requires (in_memory c.before.before.before.before))
 
 -- what is found is the first repeated power of the case
-repeated_is : (c : tie.After-first-repeat) →
-    let m = c.before.before.before.before.before in
-    repeat_read c.first-repeat.result ≡ repeat_of (network m.before.before.before.before.before.before.before.before.args.case)
+repeated_is : (c : tie.After-first_repeat-repeated) →
+    repeat_read c.first_repeat-repeated.result ≡ repeat_of (network c.args.case)
 repeated_is c =
-    let m = c.before.before.before.before.before in
-    let t = m.before.before.before.before.before.before.before in
-    let a = t.before in
-    (rw t.table-size.ensures at c.first-repeat.ensures) ∙ repeat_is a.args.case a.args.capacity _ a.requires (in_memory m)
+    (rw c.table_size-count.ensures at c.first_repeat-repeated.ensures) ∙ repeat_is c.args.case c.args.capacity _ c.requires (in_memory c.before.before.before.before.before)
 
-plan-of-requires : tie.Need-plan-of-requires
+plan-of-requires : tie.Need-plan_of-plan-requires
 unfolding network
 plan-of-requires c κs =
-    let a = c.before.before.before.before.before.before.before.before.before.before.before.before.before in
-    let w = a.args.case in
-    (λ again e. counted w a.args.capacity _ a.requires again (sym (repeated_is c) ∙ e), (limits_of w a.args.capacity _ a.requires).few_cycles)
+    let w = c.args.case in
+    (λ again e. counted w c.args.capacity _ c.requires again (sym (repeated_is c.before) ∙ e), (limits_of w c.args.capacity _ c.requires).few_cycles)
 
 -- the searched horizon
-plan_made : (c : tie.After-plan-of) →
-    let m = c.before.before.before.before.before.before in
-    Planned (plan (network m.before.before.before.before.before.before.before.before.args.case)) c.plan-of.result
+plan_made : (c : tie.After-plan_of-plan) →
+    Planned (plan (network c.args.case)) c.plan_of-plan.result
 plan_made c =
-    let f = c.before in
-    let d = f.before in
-    let m = d.before.before.before.before in
-    let p = m.before.before.before.before.before.before in
-    let a = p.before.before in
-    let free = rw p.pattern_size_lem.ensures at d.differences.ensures in
-    planned a.args.case a.args.capacity _ a.requires (in_memory m) f.first-repeat.result _ (repeated_is f) free c.plan-of.ensures
+    let free = rw c.pattern_size-size.ensures at c.differences-free.ensures in
+    planned c.args.case c.args.capacity _ c.requires (in_memory c.before.before.before.before.before.before.before) c.first_repeat-repeated.result _ (repeated_is c.before.before) free c.plan_of-plan.ensures
 
-search-requires : tie.Need-search-requires
+search-requires : tie.Need-search-answer-requires
 unfolding network
 search-requires c κs =
-    let d = c.before in
-    let q = d.before.before in
-    let m = q.before.before.before.before.before.before in
-    let p = m.before.before.before.before.before.before in
-    let a = p.before.before in
-    let w = a.args.case in
-    rw (p.before.table-size.ensures, p.pattern_size_lem.ensures)
-    (searchable w a.args.capacity _ a.requires (in_memory m) d.parts.ensures (omega (arith, (plan_made q).cycles, plan_within (network w))))
+    let w = c.args.case in
+    rw (c.table_size-count.ensures, c.pattern_size-size.ensures)
+    (searchable w c.args.capacity _ c.requires (in_memory c.before.before.before.before.before.before.before.before.before.before) c.parts-parts.ensures (omega (arith, (plan_made c.before.before.before).cycles, plan_within (network w))))
 
 clear-requires : tie.Need-clear-requires
 clear-requires c κs = search rules
 
-same_length : tie.Need-same-length
+same_length : tie.Need-shape_of-work
 same_length c = search rules
 
 returns : tie.Need-returns
-returns c =
-    let l = c.before in
-    let s = l.before.before.before in
-    let q = s.before.before.before.before in
-    let m = q.before.before.before.before.before.before in
-    let p = m.before.before.before.before.before.before in
-    let a = p.before.before in (
-      found a.args.case a.args.capacity _ a.requires (in_memory m) (plan_made q)
-          (rw (p.before.table-size.ensures, p.pattern_size_lem.ensures) at s.search.ensures),
-      l.clear.ensures ∙ ap (λ (n : ℕ). replicate n (pos 0)) s.search.auto.0,
-    )
+returns c = (
+  found c.args.case c.args.capacity _ c.requires (in_memory c.before.before.before.before.before.before.before.before.before.before.before.before.before.before.before) (plan_made c.before.before.before.before.before.before.before.before)
+      (rw (c.table_size-count.ensures, c.pattern_size-size.ensures) at c.search-answer.ensures),
+  c.clear.ensures ∙ ap (λ (n : ℕ). replicate n (pos 0)) c.search-answer.auto.work,
+)
 
 pub searched_spec : {M : Type 1} → statement M
 searched_spec =
