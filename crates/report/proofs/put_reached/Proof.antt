@@ -21,4 +21,4 @@ returns-2 c =
 
 pub put_reached_spec : {M : Type 1} → statement M
 put_reached_spec =
-    tie.close (tie.spec (λ c. search rules) (λ c κs. search rules) returns (λ c. search rules) (λ c κs. search rules) returns-2)
+    tie.close (tie.spec (λ c κs. search rules) returns (λ c κs. search rules) returns-2)
