@@ -7,7 +7,7 @@ use Rattle.embed.proofs.case_in.Tie as tie
 
 returns : tie.Need-returns
 unfolding case_in
-returns c = rw (c.before.before.table_in_lem.ensures, c.before.pattern_in.ensures, c.pattern-in2.ensures) refl
+returns c = rw (c.table_in-times.ensures, c.pattern_in-start.ensures, c.pattern_in-target.ensures) refl
 
 pub case_in_spec : {M : Type 1} → statement M
 case_in_spec = tie.close (tie.spec (λ c κs. search rules) (λ c κs. search rules) (λ c κs. search rules) returns)

@@ -6,7 +6,7 @@ use Rattle.embed.proofs.limit_at.Tie as tie
 
 returns : tie.Need-returns
 unfolding limit_at
-returns c = rw c.before.before.slot_at_lem.ensures
+returns c = rw c.slot_at-slot.ensures
 
 pub limit_at_spec : {M : Type 1} → statement M
 limit_at_spec = tie.close (tie.spec (λ c κs. search rules) (λ c. search rules) returns)

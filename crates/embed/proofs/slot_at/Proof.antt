@@ -11,9 +11,8 @@ use Rattle.embed.proofs.slot_at.Tie as tie
 returns : tie.Need-returns
 unfolding slot_at
 returns c =
-    let d = c.before in
-    let a = d.before.before.args in
-    simp (to_z-of_z w64 (get_or a.values.now a.k (pos 0)) (record { sfits = d.slot-of-arg2.given })) at c.slot_of.ensures
+    let a = c.args in
+    simp (to_z-of_z w64 (get_or a.values.now a.k (pos 0)) (record { sfits = c.slot_of-arg-2-1.given })) at c.slot_of.ensures
 
 pub slot_at_spec : {M : Type 1} → statement M
 slot_at_spec =

@@ -15,35 +15,31 @@ use Rattle.embed.proofs.tramcheck_commit_15.Statement.{statement}
 use Rattle.embed.proofs.tramcheck_commit_15.Tie as tie
 
 -- the new entry
-slot_is : (c : tie.After-slot-of) → let a = c.before.before.before.before.args in c.slot_of.result ≡ slot_of a.has a.time
+slot_is : (c : tie.After-slot_of-slot) → let a = c.args in c.slot_of-slot.result ≡ slot_of a.has a.time
 slot_is c =
-    let s = c.before.before.before.before in
-    simp (to_z-of_z w64 s.args.time s.ranges.time) at c.slot_of.ensures
+    simp (to_z-of_z w64 c.args.time c.ranges.time) at c.slot_of-slot.ensures
 
 -- what was judged is what the definition judges
-judged_is : (c : tie.After-commit) →
-    let a = c.before.before.before.before.before.args in
+judged_is : (c : tie.After-commit-done) →
+    let a = c.args in
     let case = case_in a.n a.horizon a.present.now a.strict.now a.values.now in
-    c.commit.result.judged ≡ (commit case a.row a.column (slot_of a.has a.time)).judged
+    c.commit-done.result.judged ≡ (commit case a.row a.column (slot_of a.has a.time)).judged
 judged_is c =
-    let s = c.before in
-    rw (slot_is s, s.before.case-in.ensures) at (ap (λ (r : Committed). r.judged) c.commit.ensures)
+    rw (slot_is c.before, c.case_in-case.ensures) at (ap (λ (r : Committed). r.judged) c.commit-done.ensures)
 
 -- where it is accepted, the place is in the table
-here : (c : tie.After-enum-told) →
-    let a = c.before.before.before.before.before.before.before.args in
+here : (c : tie.In-Accepted) →
+    let a = c.args in
     (1 ≤ a.row) × (1 ≤ a.column) × (time_place a.n a.row a.column < most_times)
-here c = in_table _ _ _ _ _ _ _ _ (sym (judged_is c.before.before) ∙ c.enum_told.given.1)
+here c = in_table _ _ _ _ _ _ _ _ (sym (judged_is c.before) ∙ c.in-Accepted.is)
 
 returns : tie.Need-returns
 returns c =
-    let m = c.before.before.before.before in
-    let d = m.before in
-    let told = rw (c.before.before.before.with-count.ensures, judged_is d) at c.tell-written.ensures in
-    let is = sym (judged_is d) in
+    let told = rw (c.with_count-answer.ensures, judged_is c.before.before.before.before.before) at c.tell_written.ensures in
+    let is = sym (judged_is c.before.before.before.before.before) in
     ⊎_elim
-    (λ w. rw (w.7, w.8) (put_handed _ _ _ _ _ _ _ _ told (is ∙ w.1.given.1) (rw (slot_is d.before) at w.4.ensures)))
-    (λ w. rw (w.2, w.3) (kept_handed _ _ _ _ _ _ _ _ told (is ∙ w.1.given.1))) m.match.branch
+    (λ w. rw (w.present-is, w.values-is) (put_handed _ _ _ _ _ _ _ _ told (is ∙ w.in-Accepted.is) (rw (slot_is c.before.before.before.before.before.before) at w.with_entry-changed.ensures)))
+    (λ w. rw (w.present-is, w.values-is) (kept_handed _ _ _ _ _ _ _ _ told (is ∙ w.in_default.is))) c.match-judged.branch-raw
 
 pub tramcheck_commit_15_spec : {M : Type 1} → statement M
 tramcheck_commit_15_spec =

@@ -5,8 +5,7 @@ use Rattle.embed.proofs.tramcheck_decide_15.Tie as tie
 
 returns : tie.Need-returns
 returns c =
-    let v = c.before.before.before.before.before in
-    rw (v.decide.ensures.answer, v.before.case-in.ensures) at c.tell-exactly.ensures
+    rw (c.decide-found.ensures.answer, c.case_in-case.ensures) at c.tell_exactly.ensures
 
 pub tramcheck_decide_15_spec : {M : Type 1} → statement M
 tramcheck_decide_15_spec = tie.close (tie.spec (λ c κs. search rules) (λ c κs. search rules) (λ c κs. search rules) returns)

@@ -6,11 +6,8 @@ use Rattle.embed.proofs.tramcheck_read_15.Tie as tie
 
 returns : tie.Need-returns
 returns c =
-    let w = c.before.before.before in
-    let e = w.before.before.before.before in
-    let r = e.before.before.before.before.before.before in
-    rw (← r.read.ensures)
-    (rw w.with-count.ensures at c.tell-written.ensures, record { departures = refl; cycles = refl; entries = e.entries_of_lem.ensures })
+    rw (← c.read-read.ensures)
+    (rw c.with_count-answer.ensures at c.tell_written.ensures, record { departures = refl; cycles = refl; entries = c.entries_of-entries.ensures })
 
 pub tramcheck_read_15_spec : {M : Type 1} → statement M
 tramcheck_read_15_spec =

@@ -5,10 +5,7 @@ use Rattle.embed.proofs.tramcheck_run_15.Tie as tie
 
 returns : tie.Need-returns
 returns c =
-    let v = c.before.before.before.before in
-    let r = v.before in
-    let t = r.before in
-    rw (v.run-answer.ensures, r.run.ensures, t.start-times.ensures, t.before.before.case-in.ensures) at c.tell.ensures
+    rw (c.run_answer-answer.ensures, c.run-run.ensures, c.start_times-from.ensures, c.case_in-case.ensures) at c.tell.ensures
 
 pub tramcheck_run_15_spec : {M : Type 1} → statement M
 tramcheck_run_15_spec =

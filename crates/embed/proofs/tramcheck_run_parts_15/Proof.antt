@@ -29,12 +29,8 @@ parts_told c xs k = go (outside 1 most_departures c.n) refl
 
 returns : tie.Need-returns
 returns c =
-    let v = c.before.before.before.before.before in
-    let p = v.before in
-    let r = p.before in
-    let t = r.before in
-    rw (v.run-answer.ensures, p.parts.ensures, r.run-parts.ensures, t.start-times.ensures, t.before.before.case-in.ensures, parts_told _ _ _)
-    at c.tell-in-parts.ensures
+    rw (c.run_answer-answer.ensures, c.parts-factor.ensures, c.run_parts-run.ensures, c.start_times-from.ensures, c.case_in-case.ensures, parts_told _ _ _)
+    at c.tell_in_parts.ensures
 
 pub tramcheck_run_parts_15_spec : {M : Type 1} → statement M
 tramcheck_run_parts_15_spec =

@@ -5,8 +5,7 @@ use Rattle.embed.proofs.tramcheck_to_old.Tie as tie
 
 returns : tie.Need-returns
 returns c =
-    let w = c.before.before.before.before.before in
-    record { numbers = rw w.to-old.ensures.answer at c.tell-written.ensures; output = w.to-old.ensures.output }
+    record { numbers = rw c.to_old-answer.ensures.answer at c.tell_written.ensures; output = c.to_old-answer.ensures.output }
 
 pub tramcheck_to_old_spec : {M : Type 1} → statement M
 tramcheck_to_old_spec =

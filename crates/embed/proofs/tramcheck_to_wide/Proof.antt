@@ -5,8 +5,7 @@ use Rattle.embed.proofs.tramcheck_to_wide.Tie as tie
 
 returns : tie.Need-returns
 returns c =
-    let w = c.before.before.before.before.before in
-    record { numbers = rw w.to-wide.ensures.answer at c.tell-written.ensures; output = w.to-wide.ensures.output }
+    record { numbers = rw c.to_wide-answer.ensures.answer at c.tell_written.ensures; output = c.to_wide-answer.ensures.output }
 
 pub tramcheck_to_wide_spec : {M : Type 1} → statement M
 tramcheck_to_wide_spec =

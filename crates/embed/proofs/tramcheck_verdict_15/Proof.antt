@@ -5,8 +5,8 @@ use Rattle.embed.proofs.tramcheck_verdict_15.Tie as tie
 
 returns : tie.Need-returns
 returns c =
-    let v = c.before.before.before.before.before.before.verdict-packed.ensures in
-    (rw v.answer at c.tell-in-parts.ensures, v.workspace)
+    let v = c.verdict_packed-answer.ensures in
+    (rw v.answer at c.tell_in_parts.ensures, v.workspace)
 
 pub tramcheck_verdict_15_spec : {M : Type 1} → statement M
 tramcheck_verdict_15_spec =

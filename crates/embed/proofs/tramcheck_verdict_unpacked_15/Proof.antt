@@ -5,9 +5,8 @@ use Rattle.embed.proofs.tramcheck_verdict_unpacked_15.Tie as tie
 
 returns : tie.Need-returns
 returns c =
-    let v = c.before.before.before.before.before.before in
-    let k = v.before.before.case-in.ensures in
-    (rw (v.verdict.ensures.answer, k) at c.tell-in-parts.ensures, rw k at v.verdict.ensures.workspace)
+    let k = c.case_in-case.ensures in
+    (rw (c.verdict-answer.ensures.answer, k) at c.tell_in_parts.ensures, rw k at c.verdict-answer.ensures.workspace)
 
 pub tramcheck_verdict_unpacked_15_spec : {M : Type 1} → statement M
 tramcheck_verdict_unpacked_15_spec =

@@ -5,9 +5,8 @@ use Rattle.embed.proofs.tramcheck_write_15.Tie as tie
 
 returns : tie.Need-returns
 returns c =
-    let w = c.before.before.before.before.before in
-    let k = w.before.before.case-in.ensures in
-    rw (← k) (record { numbers = rw w.write.ensures.answer at c.tell-written.ensures; output = w.write.ensures.output })
+    let k = c.case_in-case.ensures in
+    rw (← k) (record { numbers = rw c.write-answer.ensures.answer at c.tell_written.ensures; output = c.write-answer.ensures.output })
 
 pub tramcheck_write_15_spec : {M : Type 1} → statement M
 tramcheck_write_15_spec =

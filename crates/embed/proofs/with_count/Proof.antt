@@ -6,11 +6,11 @@ use Rattle.embed.specs.Numbers.{with_count}
 use Rattle.embed.proofs.with_count.Statement.{statement}
 use Rattle.embed.proofs.with_count.Tie as tie
 
-returns : tie.Need-returns
-returns c = sym (ap (λ (j : Judged). with_count j c.before.before.before.args.count) c.before.judged.given.1)
+returns : tie.Need-returns-in-Refused
+returns c = sym (ap (λ (j : Judged). with_count j c.args.count) c.in-Refused.is)
 
-returns-2 : tie.Need-returns-2
-returns-2 c = sym (ap (λ (j : Judged). with_count j c.before.before.args.count) c.enum_told.given.1)
+returns-2 : tie.Need-returns-in-Accepted
+returns-2 c = sym (ap (λ (j : Judged). with_count j c.args.count) c.in-Accepted.is)
 
 pub with_count_spec : {M : Type 1} → statement M
 with_count_spec = tie.close (tie.spec (λ c. search rules) (λ c. search rules) returns returns-2)

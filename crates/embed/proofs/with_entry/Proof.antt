@@ -10,7 +10,7 @@ use Rattle.embed.proofs.with_entry.Tie as tie
 
 returns : tie.Need-returns
 returns c =
-    let a = c.before.before.before.args in
+    let a = c.args in
     let same : to_z w64 (of_z w64 a.slot.value.0) ≡ a.slot.value.0 = search rules in
     rw (c.flag.ensures, same) (put a.k a.slot a.present a.values (omega arith) (omega arith))
 
