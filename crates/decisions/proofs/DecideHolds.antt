@@ -25,7 +25,7 @@ use Rattle.model.proofs.DemandsHold.{answer_in, answer_refused, first_times, num
 use Rattle.decisions.specs.declared.Finding.{Finding}
 use Rattle.decisions.specs.declared.Finding.TheVariants as finding
 use Rattle.decisions.specs.declared.Decided.{Decided}
-use Rattle.decisions.specs.Decide.{most_far, Decision, reached, clear, never, undecided, decide_marked, decide_fault, refused_as, told, decided, numbers_of}
+use Rattle.decisions.specs.Decide.{most_far, Decision, reached, undecided, decide_marked, decide_fault, refused_as, told, decided, numbers_of}
 use Rattle.decisions.specs.Deciding.{Accepted, Decisive, FirstTo, Demand1, Demand2, Demand3, Agrees, Decides, DecideGiven}
 use Rattle.decisions.proofs.Whole.{Enough}
 use Rattle.decisions.proofs.Meant.{Meant, reached_at, clear_at, never_at, undecided_at, meant, enough_marked, never_marked}

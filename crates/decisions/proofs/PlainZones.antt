@@ -2,7 +2,7 @@
 use Prim.Native.Nat.{ℕ, ◌<◌}
 use mathlib.Core.Path.{◌≡◌, refl, ap}
 use mathlib.Core.Logic.{◌↔◌}
-use mathlib.Core.Option.{Option, none, some}
+use mathlib.Core.Option.{Option, some}
 use lib.IntN.{ℤ, pos, ◌+ℤ◌}
 use Rattle.ints.proofs.Integers.{add_ud, pos_ud}
 use Rattle.model.specs.Bound as B

@@ -1,6 +1,6 @@
 -- The columns of the rows before: where each attains the largest sum at all times of a set, what further rows leave of the set
 -- goes by the images in those rows, and not by which columns they are.
-use Prim.Native.Nat.{ℕ, zero, suc, ◌+◌, ◌≤◌, ◌<◌}
+use Prim.Native.Nat.{ℕ, zero, suc, ◌≤◌, ◌<◌}
 use native.Mathlib.Omega.{arith}
 use mathlib.Core.Path.{◌≡◌, refl, sym, ◌∙◌}
 use mathlib.Core.List.{List, [], ◌∷◌, ◌++◌, map, foldl}

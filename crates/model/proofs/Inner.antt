@@ -1,6 +1,6 @@
 -- A closed matrix has members in parts of a second: each strict bound is kept by some whole times that keep to all others without
 -- their marks, and the sum of such times for all bounds, in as many parts, keeps to all.
-use Prim.Native.Nat.{ℕ, suc, ◌+◌, ◌*◌, ◌≤◌, ◌<◌}
+use Prim.Native.Nat.{ℕ, suc, ◌≤◌, ◌<◌}
 use native.Mathlib.Omega.{arith}
 use mathlib.Core.Path.{◌≡◌, refl, ap, ap₂, sym, ◌∙◌}
 use mathlib.Core.Bool.{Bool, true, false, ◌||◌}

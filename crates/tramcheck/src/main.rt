@@ -1,18 +1,22 @@
 // Reads one packed case from standard input and prints the verdict on it.
 #![tactic(auto)]
 
+use std::io;
+
 mod input;
 mod output;
 mod waiting;
 
-fn main() {
+fn main(rt: HostRuntime) -> io::Result<()> {
     let mut bytes = [0u8; report::INPUT];
-    let case = input::read_case(&mut bytes);
-    if case.failed {
-        return;
-    }
-    let size = case.size;
+    let size = match input::read_case(rt.stdin(), &mut bytes) {
+        Ok(size) => size,
+        Err(e) => return eprintln!(rt; "tramcheck: standard input: {e}"),
+    };
     let mut text = [0u8; report::TEXT];
     let length = report::report_input(&bytes, size, &mut text);
-    output::print(&text[..length]);
+    match output::print(rt.stdout(), &text[..length]) {
+        Ok(()) => Ok(()),
+        Err(e) => eprintln!(rt; "tramcheck: standard output: {e}"),
+    }
 }

@@ -1,39 +1,33 @@
 // Standard output, however slowly it is taken.
-ghost use Rattle.std.specs.Prelude.{◌≤◌, length};
+ghost use Rattle.std.specs.Prelude.{◌≤◌, length, IfOk};
 
 use crate::waiting::call_again;
+use std::io::{self, Write};
+use std::rt::Stdout;
 
-// One write: how many bytes were taken, and whether to go on.
-#[derive(Drop)]
-struct Taken {
-    size: usize,
-    more: bool,
-}
-
-fn write_piece(part: &[u8]) -> Taken
-    ensures { result.size ≤ length part.now }
+// One write: how many bytes were taken.
+fn write_piece(mut stdout: Stdout, part: &[u8]) -> io::Result<usize>
+    ensures { IfOk result (λ size. size ≤ length part.now) }
 {
-    let put = libc::write(libc::STDOUT_FILENO, part);
-    let size = io::count(put, part);
-    if put >= 0 {
-        return Taken { size, more: true };
+    match stdout.write(part) {
+        Ok(size) => Ok(size),
+        Err(e) => {
+            if call_again(&e) {
+                return Ok(0);
+            }
+            Err(e)
+        }
     }
-    let more = call_again();
-    if !more {
-        os::fail(b"tramcheck: standard output");
-    }
-    Taken { size: 0, more }
 }
 
 // Writes all of a text, or stops at a write that fails. The count of turns is for the proof that the loop ends.
-pub(crate) fn print(text: &[u8]) {
+pub(crate) fn print(stdout: Stdout, text: &[u8]) -> io::Result<()> {
     let mut size = 0;
-    let mut more = true;
-    let mut turns = u64::MAX;
-    while more && size < text.len() && turns > 0 {
-        let taken = write_piece(&text[size..]);
-        size += taken.size;
-        more = taken.more;
-        turns -= 1;
+    for _ in 0..u64::MAX {
+        if size >= text.len() {
+            break;
+        }
+        size += write_piece(stdout, &text[size..])?;
     }
+    Ok(())
 }

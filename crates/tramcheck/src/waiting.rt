@@ -1,11 +1,13 @@
 // Calls that are to be made again.
+use std::io::{Error, ErrorKind};
+use std::thread;
 
-// Whether the call that failed just now was interrupted, or found nothing ready, so that it is made again, later in the second case.
-pub(crate) fn call_again() -> bool {
-    let error = os::errno();
-    if error == libc::EAGAIN {
-        libc::sched_yield();
+// Whether the call that failed was interrupted, or found nothing ready, so that it is made again, later in the second case.
+pub(crate) fn call_again(error: &Error) -> bool {
+    let kind = error.kind();
+    if kind == ErrorKind::WouldBlock {
+        thread::yield_now();
         return true;
     }
-    error == libc::EINTR
+    kind == ErrorKind::Interrupted
 }

@@ -5,6 +5,8 @@ use crate::call::{Call, ROOM, SIZE};
 use crate::{call, text};
 use ints::Cycle;
 use model::{Answer, Judged, Run, Verdict, Written};
+use std::io::{self, Print};
+use std::rt::Stdout;
 
 // What the workspace is filled with before a call.
 const MARK: i32 = 7;
@@ -19,7 +21,7 @@ const CHANGED: u8 = 2;
 const EMPTY: u8 = 3;
 
 // What a line says of a call.
-#[derive(Drop)]
+#[derive(Clone, Copy)]
 struct Outcome {
     answer: Answer,
     work: u8,
@@ -80,44 +82,43 @@ fn made(call: Call, packed: bool) -> Outcome {
 }
 
 // The parts of a second that the start is in are told where there are more than one.
-fn write_verdict(verdict: Verdict, parts: usize) {
+fn write_verdict(out: Stdout, verdict: Verdict, parts: usize) -> io::Result<()> {
     match verdict {
         Verdict::Reached(k) => {
-            io::write_all(1, b"reached ");
-            io::print_decimal(1, k.0 as u64);
-            if parts > 1 {
-                io::write_all(1, b" of ");
-                io::print_decimal(1, parts as u64);
+            out.write_all(b"reached ")?;
+            out.print(k.0 as u64)?;
+            if parts <= 1 {
+                return Ok(());
             }
+            out.write_all(b" of ")?;
+            out.print(parts as u64)
         }
         Verdict::Clear(horizon) => {
-            io::write_all(1, b"clear ");
-            io::print_decimal(1, horizon.0 as u64);
+            out.write_all(b"clear ")?;
+            out.print(horizon.0 as u64)
         }
-        Verdict::Never => {
-            io::write_all(1, b"never");
-        }
-        Verdict::Refused(fault) => text::refused(fault),
+        Verdict::Never => out.write_all(b"never"),
+        Verdict::Refused(fault) => text::refused(out, fault),
     }
 }
 
-fn write_work(work: u8) {
+fn write_work(out: Stdout, work: u8) -> io::Result<()> {
     match work {
-        CLEARED => io::write_all(1, b", workspace zero"),
-        UNCHANGED => io::write_all(1, b", workspace unchanged"),
-        EMPTY => io::write_all(1, b", workspace empty"),
-        _ => io::write_all(1, b", workspace changed"),
-    };
+        CLEARED => out.write_all(b", workspace zero"),
+        UNCHANGED => out.write_all(b", workspace unchanged"),
+        EMPTY => out.write_all(b", workspace empty"),
+        _ => out.write_all(b", workspace changed"),
+    }
 }
 
-fn write_outcome(outcome: Outcome) {
+fn write_outcome(out: Stdout, outcome: Outcome) -> io::Result<()> {
     let answer = outcome.answer;
     let verdict = answer.verdict;
     let start = answer.start;
-    write_verdict(verdict, answer.parts);
-    io::write_all(1, b", start");
-    text::times(start);
-    write_work(outcome.work);
+    write_verdict(out, verdict, answer.parts)?;
+    out.write_all(b", start")?;
+    text::times(out, start)?;
+    write_work(out, outcome.work)
 }
 
 fn same(a: Outcome, b: Outcome) -> bool {
@@ -136,65 +137,66 @@ fn same(a: Outcome, b: Outcome) -> bool {
 }
 
 // What a packed form of the case gives, beside the unpacked one.
-fn compared(call: Call, wide: bool, unpacked: Outcome) {
+fn compared(out: Stdout, call: Call, wide: bool, unpacked: Outcome) -> io::Result<()> {
     let written = call::packed(call, wide);
     if written.length == 0 {
-        io::write_all(1, b"refused");
-        return;
+        return out.write_all(b"refused");
     }
     let packed = made(written, true);
     if same(unpacked, packed) {
-        io::write_all(1, b"the same");
+        out.write_all(b"the same")
     } else {
-        write_outcome(packed);
+        write_outcome(out, packed)
     }
 }
 
-fn both(call: Call) {
+fn both(out: Stdout, call: Call) -> io::Result<()> {
     let unpacked = made(call, false);
-    write_outcome(unpacked);
-    io::write_all(1, b"; packed ");
-    compared(call, false, unpacked);
-    io::write_all(1, b"; wide ");
-    compared(call, true, unpacked);
+    write_outcome(out, unpacked)?;
+    out.write_all(b"; packed ")?;
+    compared(out, call, false, unpacked)?;
+    out.write_all(b"; wide ")?;
+    compared(out, call, true, unpacked)
 }
 
-fn write_run(run: Run) {
+fn write_run(out: Stdout, run: Run) -> io::Result<()> {
     let judged = run.judged;
     let times = run.times;
     if let Judged::Refused(fault) = judged {
-        text::refused(fault);
-        io::write_all(1, b", ");
+        text::refused(out, fault)?;
+        out.write_all(b", ")?;
     }
-    io::write_all(1, b"times");
-    text::times(times);
+    out.write_all(b"times")?;
+    text::times(out, times)
 }
 
-fn written(call: Call) {
+fn written(out: Stdout, call: Call) -> io::Result<()> {
     let mut bytes = [0u8; SIZE];
     let size = least(call.size, SIZE);
     match call::write(call::case_of(call), call.wide, &mut bytes[..size]) {
         Written::Bytes(length) => {
-            io::print_decimal(1, length as u64);
-            io::write_all(1, b" bytes");
+            out.print(length as u64)?;
+            out.write_all(b" bytes")
         }
-        Written::Refused(fault) => text::refused(fault),
+        Written::Refused(fault) => text::refused(out, fault),
     }
 }
 
-pub(crate) fn answer(call: Call) {
+pub(crate) fn answer(out: Stdout, call: Call) -> io::Result<()> {
     let what = call.what;
     let from = call.from;
     if call.bad {
-        io::write_all(1, b"NOT READ");
-        return;
+        return out.write_all(b"NOT READ");
     }
     match what {
-        0 => both(call),
-        b'U' => write_outcome(made(call, false)),
-        b'y' => write_outcome(made(call, true)),
-        b'R' => write_run(runs::run(call::case_of(call), from, Cycle(call.size))),
-        b'D' => write_run(runs::run_parts(call::case_of(call), from, Cycle(call.size))),
-        _ => written(call),
+        0 => both(out, call),
+        b'U' => write_outcome(out, made(call, false)),
+        b'y' => write_outcome(out, made(call, true)),
+        b'R' => write_run(out, runs::run(call::case_of(call), from, Cycle(call.size))),
+        b'D' => write_run(
+            out,
+            runs::run_parts(call::case_of(call), from, Cycle(call.size)),
+        ),
+        _ => written(out, call),
     }
 }

@@ -14,7 +14,7 @@ pub(crate) const SIZE: usize = 1920;
 // The largest time.
 const LARGEST: u64 = 9223372036854775807;
 
-#[derive(Drop)]
+#[derive(Clone, Copy)]
 pub(crate) struct Call {
     // the word that says what is called, 0 for the verdict in all forms, and whether something was not read
     pub what: u8,

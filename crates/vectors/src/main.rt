@@ -18,6 +18,11 @@
 // What cannot be read, or lends more than there is, is answered by NOT READ, and nothing is called.
 #![tactic(auto)]
 
+ghost use Rattle.std.specs.Prelude.{◌≤◌, length, IfOk};
+
+use std::io::{self, Print, Read};
+use std::rt::{Stdin, Stdout};
+
 mod answers;
 mod call;
 mod text;
@@ -26,40 +31,59 @@ mod words;
 // More than the bytes of the input.
 const INPUT: usize = 200000;
 
-fn main() {
+fn main(rt: HostRuntime) -> io::Result<()> {
+    let out = rt.stdout();
     let mut input = [0u8; INPUT];
-    let size = io::read_full(0, &mut input);
+    let size = read_all(rt.stdin(), &mut input)?;
     if size == INPUT {
-        io::write_all(1, b"NOT READ: the input is too long\n");
-        return;
+        return out.write_all(b"NOT READ: the input is too long\n");
     }
-    lines(&input[..size]);
+    lines(out, &input[..size])
 }
 
-fn lines(input: &[u8]) {
+// Reads until the input ends or there is no room.
+fn read_all(mut stdin: Stdin, input: &mut [u8]) -> io::Result<usize>
+    ensures { IfOk result (λ size. size ≤ length input.new) }
+{
+    let mut size = 0;
+    for _ in 0..u64::MAX {
+        if size >= input.len() {
+            break;
+        }
+        let more = stdin.read(&mut input[size..])?;
+        size += more;
+        if more == 0 {
+            break;
+        }
+    }
+    Ok(size)
+}
+
+fn lines(out: Stdout, input: &[u8]) -> io::Result<()> {
     let mut at = 0;
     while at < input.len() {
         let end = words::find(input, at, b'\n');
-        line(&input[at..end]);
+        line(out, &input[at..end])?;
         at = end;
         if at < input.len() {
             at += 1;
         }
     }
+    Ok(())
 }
 
-fn line(text: &[u8]) {
+fn line(out: Stdout, text: &[u8]) -> io::Result<()> {
     if text.len() > 0 && text[0] != b'#' {
         let end = words::find(text, 0, b':');
-        io::write_all(1, &text[..end]);
-        io::write_all(1, b": ");
+        out.write_all(&text[..end])?;
+        out.write_all(b": ")?;
         if end == text.len() {
-            answers::answer(call::read(text));
+            answers::answer(out, call::read(text))?;
         } else {
-            answers::answer(call::read(&text[end + 1..]));
+            answers::answer(out, call::read(&text[end + 1..]))?;
         }
     } else if text.len() > 0 {
-        io::write_all(1, &text[1..]);
+        out.write_all(&text[1..])?;
     }
-    io::write_all(1, b"\n");
+    out.write_all(b"\n")
 }

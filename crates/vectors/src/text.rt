@@ -1,21 +1,24 @@
 // Writes numbers, times and faults.
 use ints::Seconds;
 use model::{DEPARTURES, Fault};
+use std::io::{self, Print};
+use std::rt::Stdout;
 
-fn signed(time: Seconds) {
+fn signed(out: Stdout, time: Seconds) -> io::Result<()> {
     if time.0 < 0 {
-        io::write_all(1, b"-");
+        out.write_all(b"-")?;
     }
-    io::print_decimal(1, puts::magnitude(time));
+    out.print(puts::magnitude(time))
 }
 
 // All times.
-pub(crate) fn times(values: [Seconds; DEPARTURES]) {
+pub(crate) fn times(out: Stdout, values: [Seconds; DEPARTURES]) -> io::Result<()> {
     for i in 0..DEPARTURES {
         let time = values[i];
-        io::write_all(1, b" ");
-        signed(time);
+        out.write_all(b" ")?;
+        signed(out, time)?;
     }
+    Ok(())
 }
 
 pub(crate) fn same_times(a: [Seconds; DEPARTURES], b: [Seconds; DEPARTURES]) -> bool {
@@ -28,9 +31,9 @@ pub(crate) fn same_times(a: [Seconds; DEPARTURES], b: [Seconds; DEPARTURES]) -> 
     same
 }
 
-pub(crate) fn refused(fault: Fault) {
-    io::write_all(1, b"refused ");
-    io::print_decimal(1, fault.number() as u64);
-    io::write_all(1, b" ");
-    io::print_decimal(1, fault.returned() as u64);
+pub(crate) fn refused(out: Stdout, fault: Fault) -> io::Result<()> {
+    out.write_all(b"refused ")?;
+    out.print(fault.number() as u64)?;
+    out.write_all(b" ")?;
+    out.print(fault.returned() as u64)
 }

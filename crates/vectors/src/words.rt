@@ -1,11 +1,10 @@
 // Words and numbers of a line.
 ghost use Rattle.std.specs.Prelude.{◌<◌, ◌≤◌, length};
-ghost use Rattle.io.specs.Counts.{IsPrefixLen};
 
 // Where a byte first is from a place on, or the end.
 pub(crate) fn find(s: &[u8], from: usize, byte: u8) -> usize
     requires { from ≤ length s.now }
-    ensures { (from ≤ result) × IsPrefixLen result s.now }
+    ensures { (from ≤ result) × (result ≤ length s.now) }
 {
     let mut at = from;
     while at < s.len() && s[at] != byte {
@@ -43,7 +42,7 @@ pub(crate) fn token_end(s: &[u8], from: usize) -> usize
 }
 
 // Decimal digits, and whether the number fits.
-#[derive(Drop)]
+#[derive(Clone, Copy)]
 pub(crate) struct Number {
     pub value: u64,
     pub fits: bool,

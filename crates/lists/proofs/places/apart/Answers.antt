@@ -1,5 +1,5 @@
 -- The two numbers at place p.
-use Rattle.std.proofs.Common.{◌≡◌, sym, ap₂, ◌∙◌, arith}
+use Rattle.std.proofs.Common.{sym, ap₂, ◌∙◌, arith}
 use borrow.Author.Tests.{not-true}
 use mir.Syntax.{w32}
 use mir.ValLaws.{to_z-of_z}

@@ -5,7 +5,7 @@ use Rattle.model.specs.Lists.{any_of}
 use Rattle.model.specs.Matrix.{same_matrix}
 use Rattle.memory.specs.Numbers.{bounds_in}
 use Rattle.lists.specs.Lists.{zone_at}
-use Rattle.model.proofs.Tabulated.{from, from_next, from_end, from_first}
+use Rattle.model.proofs.Tabulated.{from, from_next, from_end}
 use Rattle.lists.proofs.places.Zones.{any_found}
 use Rattle.lists.proofs.places.has.Goals as goal
 
