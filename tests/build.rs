@@ -6,7 +6,7 @@ use std::path::PathBuf;
 fn main() {
     let folder = match env::var("EMBED_DIR") {
         Ok(given) => PathBuf::from(given),
-        Err(_) => PathBuf::from(env!("CARGO_MANIFEST_DIR")).join("../target/staticlib"),
+        Err(_) => PathBuf::from(env!("CARGO_MANIFEST_DIR")).join("../crates/embed/out"),
     };
     println!("cargo:rerun-if-env-changed=EMBED_DIR");
     println!(

@@ -23,7 +23,7 @@ const ROUNDS: usize = 11;
 fn program() -> PathBuf {
     match env::var_os("TRAMCHECK") {
         Some(given) => PathBuf::from(given),
-        None => Path::new(env!("CARGO_MANIFEST_DIR")).join("../target/bin/tramcheck"),
+        None => Path::new(env!("CARGO_MANIFEST_DIR")).join("../crates/tramcheck/out/tramcheck"),
     }
 }
 

@@ -17,7 +17,7 @@ fn beside(name: &str) -> PathBuf {
 fn program() -> PathBuf {
     match env::var_os("TRAMCHECK") {
         Some(given) => PathBuf::from(given),
-        None => beside("target/bin/tramcheck"),
+        None => beside("crates/tramcheck/out/tramcheck"),
     }
 }
 

@@ -25,7 +25,7 @@ fn compile(name: &str) -> Output {
         .args(["-std=c11", "-Wall", "-Wextra", "-Werror", "-O1", "-I"])
         .arg(folder("EMBED_INCLUDE", "../include"))
         .arg(Path::new(env!("CARGO_MANIFEST_DIR")).join(source))
-        .arg(folder("EMBED_DIR", "../target/staticlib").join("libembed.a"))
+        .arg(folder("EMBED_DIR", "../crates/embed/out").join("libembed.a"))
         .arg("-o")
         .arg(program(name))
         .output()

@@ -44,7 +44,7 @@ fn never_wait(end: &impl AsRawFd) {
 fn program() -> Command {
     let path = match std::env::var("TRAMCHECK") {
         Ok(given) => PathBuf::from(given),
-        Err(_) => PathBuf::from(env!("CARGO_MANIFEST_DIR")).join("../target/bin/tramcheck"),
+        Err(_) => PathBuf::from(env!("CARGO_MANIFEST_DIR")).join("../crates/tramcheck/out/tramcheck"),
     };
     Command::new(path)
 }

@@ -15,7 +15,7 @@ use Rattle.model.specs.Search.{pick}
 use Rattle.memory.specs.Numbers.{times_in}
 use Rattle.powers.proofs.Bounded.{powers_small}
 use Rattle.starts.specs.Numbers.{bounds_in}
-use Rattle.decisions.specs.Decide.{most_far, meeting, Decision, reached, clear, never, undecided, again, Kept, follows}
+use Rattle.decisions.specs.Decide.{most_far, meeting, Decision, reached, clear, never, undecided, Kept, follows}
 use Rattle.decisions.specs.Conditions.{table_in, from_seconds}
 use Rattle.decisions.proofs.ForCode.{from_end, from_more}
 use Rattle.descent.specs.declared.Ended.{Ended}

@@ -1,5 +1,5 @@
 -- The zones of both patterns in whole parts, and the decision between them.
-use Rattle.memory.proofs.Arrays.{part_room, part_long, part_zone}
+use Rattle.memory.proofs.Arrays.{part_zone}
 use Rattle.decide.proofs.Zoned.{start_wholable, target_wholable, no_start, no_target, zones_ready, decided_so}
 use borrow.Author.Tests.{not-true, not-false}
 use Rattle.decide.proofs.in_memory.Goals as goal

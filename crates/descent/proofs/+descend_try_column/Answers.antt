@@ -1,7 +1,5 @@
 -- By recursion over the rows: a row is a loop over its columns, and a column goes on with the row below.
-use Rattle.std.proofs.Common.{◌≡◌, sym, ◌∙◌, ◌≤◌, ◌<◌, true, arith}
-use Rattle.model.specs.Network.{time, is_time}
-use Rattle.descent.specs.Numbers.{times_in}
+use Rattle.std.proofs.Common.{sym, ◌∙◌, ◌≤◌, ◌<◌, arith}
 use Rattle.descent.proofs.Descending.{going_start, going_ready, going_done, going_found, going_spent, going_on}
 use Rattle.descent.proofs.Descending.{column_blank_ends, column_spent, build_ready, column_empty, column_found, child_ready, column_below}
 use Rattle.descent.proofs.+descend_try_column.Goals as goal

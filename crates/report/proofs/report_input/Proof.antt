@@ -1,6 +1,6 @@
 -- The text of the bytes that were read is that of every input that starts with them.
 use borrow.Author.Rules.{rules}
-use mathlib.Core.Path.{◌≡◌, sym, ap, ◌∙◌}
+use mathlib.Core.Path.{sym, ap, ◌∙◌}
 use lib.Seq.{length-take-le}
 use Rattle.report.specs.Text.{text}
 use Rattle.report.proofs.LongInput.{long_input}

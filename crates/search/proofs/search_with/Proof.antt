@@ -1,6 +1,6 @@
 -- Cycle after cycle; the two halves change places.
 use borrow.Author.Rules.{rules}
-use borrow.Author.Tests.{ltb-true, ltb-false}
+use borrow.Author.Tests.{ltb-true}
 use native.Mathlib.Omega.{arith}
 use native.Mathlib.Numerals.{add-one}
 use Prim.Native.Nat.{suc, ◌*◌, ◌-◌, ◌≤◌}
