@@ -151,7 +151,8 @@ fn row_out(part: &[i32], table: &[i64], times: &[i32], n: usize, r: usize) -> bo
     let mut s = 1;
     while s <= n {
         let c = Choice { row: r, column: s };
-        if !column_out(part, table, times, n, c) {
+        let out = column_out(part, table, times, n, c);
+        if !out {
             return false;
         }
         s += 1;

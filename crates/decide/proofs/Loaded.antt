@@ -27,7 +27,7 @@ module _ (c : Case) (horizon : ℕ) (ok : Accepted c horizon) {times start targe
 
   loaded_is : loaded ≡ network c
   unfolding network
-  loaded_is = rw (is-count, is-size, e.times_in_lem.0, e.start_in_lem.0, e.target_in.0)
+  loaded_is = rw (is-count, is-size, e.times_held.0, e.start_held.0, e.target_held.0)
 
   parts_of_lem : parts ≡ parts_of (network c)
   parts_of_lem = is-parts ∙ parts_are c (departures c (accepted_case c horizon ok))
@@ -38,11 +38,11 @@ module _ (c : Case) (horizon : ℕ) (ok : Accepted c horizon) {times start targe
       record {
         own = c.horizon.0;
         limits = rw loaded_is (case_limits c (accepted_case c horizon ok));
-        in_parts_lem = rw loaded_is parts_of_lem;
+        parts_told = rw loaded_is parts_of_lem;
         far = (accepted_horizon c horizon ok).1;
-        table = rw is-count (in_table d times e.times_in_lem.1);
-        start_in_lem = in_pattern d start e.start_in_lem.1 is-size;
-        target_in = in_pattern d target e.target_in.1 is-size;
+        table = rw is-count (in_table d times e.times_held.1);
+        start_held = in_pattern d start e.start_held.1 is-size;
+        target_held = in_pattern d target e.target_held.1 is-size;
       }
 
   pub loaded_decided : {steps : ℕ} {r : Decided} → InMemory c.n parts horizon steps (take count times) (take size start) (take size target) r

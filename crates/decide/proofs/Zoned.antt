@@ -35,7 +35,7 @@ module _ {n parts horizon : ℕ} {times start target : List ℤ} (r : MemoryRead
 
   parts_are : (own : ℕ) → parts ≡ parts_of (net own)
   unfolding parts_of
-  parts_are own = r.in_parts_lem
+  parts_are own = r.parts_told
 
   few_parts : parts ≤ suc most_departures
   few_parts = rw (parts_are 0) (parts_few (net 0) r.table.departures.few)
@@ -46,14 +46,14 @@ module _ {n parts horizon : ℕ} {times start target : List ℤ} (r : MemoryRead
   -- both patterns can be made zones in whole parts
   pub start_wholable : Wholable n start parts
   start_wholable = record {
-    meets = pattern_meets r.start_in_lem r.limits.start_small;
+    meets = pattern_meets r.start_held r.limits.start_small;
     few = few_parts;
     times = λ z e. let u = whole_zone (suc n) (parts_of (net 0)) z (start_enough (net 0) e) in (u.zone, rw (parts_are 0) u.is);
   }
 
   pub target_wholable : Wholable n target parts
   target_wholable = record {
-    meets = pattern_meets r.target_in r.limits.target_small;
+    meets = pattern_meets r.target_held r.limits.target_small;
     few = few_parts;
     times = λ z e. let u = whole_zone (suc n) (parts_of (net 0)) z (target_enough (net 0) e) in (u.zone, rw (parts_are 0) u.is);
   }

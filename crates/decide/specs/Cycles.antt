@@ -78,11 +78,11 @@ pub record BetweenReady (task : Task) (times from goal : List ℤ) : Type 0 wher
 pub record MemoryReady (n parts horizon : ℕ) (times start target : List ℤ) : Type 0 where
   pub own : ℕ
   pub limits : Limits (network_in n own times start target)
-  pub in_parts_lem : parts ≡ parts_of (network_in n own times start target)
+  pub parts_told : parts ≡ parts_of (network_in n own times start target)
   pub far : horizon ≤ most_far
   pub table : TableIn n times
-  pub start_in_lem : PatternIn n start
-  pub target_in : PatternIn n target
+  pub start_held : PatternIn n start
+  pub target_held : PatternIn n target
 
 -- the decision on it, whatever its own horizon is
 pub record InMemory (n parts horizon steps : ℕ) (times start target : List ℤ) (r : Decided) : Type 0 where

@@ -102,7 +102,8 @@ fn lead(j: usize, s: usize, c: Seconds) -> Seconds
     requires { nat_abs c.0 ≤ Largest }
     ensures { (result.0 ≡ lead j s c.0) × (nat_abs result.0 ≤ Largest + 1) }
 {
-    if j < s {
+    let earlier = j < s;
+    if earlier {
         return Seconds(c.0 - 1);
     }
     c

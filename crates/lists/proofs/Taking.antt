@@ -63,8 +63,8 @@ module _ {n capacity count : ℕ} {list times zone table seen : List ℤ} {count
       let u = t.select.ready in
       record {
         tables = u.tables;
-        times_in_lem = u.selecting.backward.table;
-        table_in_lem = t.select.tabled.inside;
+        times_held = u.selecting.backward.table;
+        table_held = t.select.tabled.inside;
         row = u.row;
         from_one = u.selecting.before.from_one;
         column = t.column;
@@ -161,8 +161,8 @@ module _ {n capacity count : ℕ} {list times zone table seen : List ℤ} {count
     pub shut_ready : ShutReady n seen' table times counts cols' i
     shut_ready = record {
       tables = still_noted.tables;
-      times_in_lem = u.selecting.backward.table;
-      table_in_lem = t.select.tabled.inside;
+      times_held = u.selecting.backward.table;
+      table_held = t.select.tabled.inside;
       row = u.row;
       long = omega (arith, row, u.cols_size, length-set cols i s);
       columns = rw cols_next next.before.columns;

@@ -31,16 +31,16 @@ pub record Tabled (n : ℕ) (times zone table : List ℤ) : Type 0 where
 -- a set of the table of sets met can be held against it: that of the row before, with column s; that of row i, with the columns up to there
 pub record FitReady (n : ℕ) (seen table times : List ℤ) (counts : List ℕ) (i s : ℕ) : Type 0 where
   pub tables : Tables n seen counts
-  pub times_in_lem : TableIn n times
-  pub table_in_lem : ZoneIn n table
+  pub times_held : TableIn n times
+  pub table_held : ZoneIn n table
   pub row : i ≤ n
   pub from_one : 1 ≤ i
   pub column : Column n (times_in times) i s
 
 pub record ShutReady (n : ℕ) (seen table times : List ℤ) (counts cols : List ℕ) (i : ℕ) : Type 0 where
   pub tables : Tables n seen counts
-  pub times_in_lem : TableIn n times
-  pub table_in_lem : ZoneIn n table
+  pub times_held : TableIn n times
+  pub table_held : ZoneIn n table
   pub row : i ≤ n
   pub long : suc i ≤ length cols
   pub columns : Cols n (times_in times) (take (suc i) cols) (suc i)

@@ -217,7 +217,8 @@ fn take_column(
         result list.new seen.new counts.new cols.new }
 {
     let nothing = Built { count, full: false };
-    if met::unfit(seen, counts, table, times, n, i, s) {
+    let out = met::unfit(seen, counts, table, times, n, i, s);
+    if out {
         return nothing;
     }
     if i == n {
@@ -405,7 +406,8 @@ pub fn first_common(
         let from = base + k * size;
         let to = from + size;
         places::store(&mut zone[..size], 0, &work[from..to], size);
-        if zones::common(&mut zone[..size], pattern, n) {
+        let some = zones::common(&mut zone[..size], pattern, n);
+        if some {
             let start = starts::start(&zone[..size], n, parts);
             return Found { some: true, start };
         }
@@ -423,7 +425,8 @@ pub fn whole_pattern(pattern: &[i32], n: usize, parts: usize) -> Whole
 {
     let size = zone_size(n);
     let mut zone = [0i32; NUMBERS];
-    if first_list(&mut zone, pattern, n) == 0 {
+    let none = first_list(&mut zone, pattern, n) == 0;
+    if none {
         return Whole {
             some: false,
             zone: [0i64; NUMBERS],

@@ -25,9 +25,9 @@ PatternOf n limits numbers = (bounds_in (take (pattern_size n) numbers) ≡ map 
 
 -- a case in memory
 pub record CaseIn (c : Case) (times start target : List ℤ) : Type 0 where
-  pub times_in_lem : (times_in (take (table_size c.n) times) ≡ table_of c.n c.times) × (length times ≡ most_bounds)
-  pub start_in_lem : PatternOf c.n c.start start
-  pub target_in : PatternOf c.n c.target target
+  pub times_held : (times_in (take (table_size c.n) times) ≡ table_of c.n c.times) × (length times ≡ most_bounds)
+  pub start_held : PatternOf c.n c.start start
+  pub target_held : PatternOf c.n c.target target
 
 -- the table and a pattern in the first numbers of an array
 module _ {n : ℕ} (d : Departures n) (numbers : List ℤ) (long : length numbers ≡ most_bounds) where

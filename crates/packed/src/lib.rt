@@ -343,7 +343,8 @@ fn read_as(s: &[u8], form: Form) -> Unpacked
     let Field::Got(lead, after_lead) = start.bits(s, form.lead) else {
         return refused(Fault::CaseEnds(0));
     };
-    if lead != 0 {
+    let other = lead != 0;
+    if other {
         return refused(Fault::Departures);
     }
     let first = after_lead.at;
@@ -384,7 +385,8 @@ pub fn read(s: &[u8]) -> Unpacked
     let Field::Got(lead, _) = start.bits(s, form.lead) else {
         return refused(Fault::CaseEnds(0));
     };
-    if lead == 0 {
+    let wide = lead == 0;
+    if wide {
         return read_wide(s);
     }
     read_old(s)

@@ -69,14 +69,14 @@ module _ (f : Form) (c : Case) {times start target : List Limit} (entries : Entr
         record {
           departures = n;
           numbers_in = record { form = lim; place = facts.1.0; some_cycles = omega arith; few_cycles = omega arith };
-          times_in_lem = rw entries.times_are (record {
+          times_held = rw entries.times_are (record {
             within = omega (arith, table_fits n);
             narrow = rw (take_map unmarked (table_size c.n) c.times) (map_every unmarked (every_map time_narrow (rows_in facts.1.1.0.1)));
           });
           patterns_in = record {
             form = lim;
-            start_in_lem = rw entries.start_are (bounded c.start facts.1.1.1.0);
-            target_in = rw entries.target_are (bounded c.target facts.1.1.1.1);
+            start_held = rw entries.start_are (bounded c.start facts.1.1.1.0);
+            target_held = rw entries.target_are (bounded c.target facts.1.1.1.1);
           };
         }
 

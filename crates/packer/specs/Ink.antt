@@ -103,8 +103,8 @@ patterns_bits f size start target = let k = of_widths (bound_widths f) in entrie
 -- both patterns
 pub record PatternsIn (f : Form) (size : ℕ) (start target : List Limit) : Type 0 where
   pub form : FormLimits f
-  pub start_in_lem : AllIn (bound_widths f) size start
-  pub target_in : AllIn (bound_widths f) size target
+  pub start_held : AllIn (bound_widths f) size start
+  pub target_held : AllIn (bound_widths f) size target
 
 -- n and h have their fields
 pub record NumbersIn (f : Form) (n h : ℕ) : Type 0 where
@@ -126,7 +126,7 @@ form_bits f n h times start target = head_bits f n h ++ times_bits n times ++ pa
 pub record Sound (f : Form) (n h : ℕ) (times start target : List Limit) : Type 0 where
   pub departures : Departures n
   pub numbers_in : NumbersIn f n h
-  pub times_in_lem : AllIn time_widths (table_size n) times
+  pub times_held : AllIn time_widths (table_size n) times
   pub patterns_in : PatternsIn f (pattern_size n) start target
 
 -- these are the entries of the case, its times as bounds that are not strict

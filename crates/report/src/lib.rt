@@ -89,7 +89,8 @@ fn put_reached(out: &mut [u8; TEXT], cycle: Cycle, parts: usize) -> usize
     ensures { PutsWithin heading_size out.old 0 (numbered reached_word cycle.0 ++ of_parts parts) result out.new }
 {
     let next = put_numbered(out, 0, b"reached ", cycle.0 as u64);
-    if parts <= 1 {
+    let whole = parts <= 1;
+    if whole {
         return next;
     }
     put_numbered(out, next, b" of ", parts as u64)

@@ -99,7 +99,7 @@ module _ {n parts capacity cycles size : ℕ} {times start target : List ℤ} (q
 
   parts_are : parts ≡ parts_of w
   unfolding parts_of
-  parts_are = q.in_parts_lem
+  parts_are = q.parts_told
 
   -- list k has a start in them, if it has one
   starts_in : (k : ℕ) → Startable n parts start (lists w k)
@@ -114,7 +114,7 @@ module _ {n parts capacity cycles size : ℕ} {times start target : List ℤ} (q
       let l = q.limits in
       let t = l.table in record {
         meets = record {
-          limits = q.start_in_lem;
+          limits = q.start_held;
           each = every_both (λ d c m. record { closed = c; meetable = m }) (lists_closed w k)
               (meetable w t.departures.few t.times_small l.target_small k cycles l.start_small);
         };
@@ -132,7 +132,7 @@ module _ {n parts capacity cycles size : ℕ} {times start target : List ℤ} (q
 
   -- list 0
   pub target_meets : Meets n target (everything (suc n) ∷ [])
-  target_meets = pattern_meets q.target_in q.limits.target_small
+  target_meets = pattern_meets q.target_held q.limits.target_small
 
   pub zone_room : zone_size n ≤ size
   zone_room = omega (arith, q.long, mul-le-mul_right (zone_size n) q.some_zones)

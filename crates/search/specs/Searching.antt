@@ -23,11 +23,11 @@ use Rattle.search.specs.declared.Step.{Step}
 pub record Searchable (n parts capacity cycles size : ℕ) (times start target : List ℤ) : Type 0 where
   pub horizon : ℕ
   pub limits : Limits (network_in n horizon times start target)
-  pub in_parts_lem : parts ≡ parts_of (network_in n horizon times start target)
+  pub parts_told : parts ≡ parts_of (network_in n horizon times start target)
   pub within : cycles ≤ horizon
   pub table : TableIn n times
-  pub start_in_lem : PatternIn n start
-  pub target_in : PatternIn n target
+  pub start_held : PatternIn n start
+  pub target_held : PatternIn n target
   pub some_zones : 1 ≤ capacity
   pub long : workspace_size capacity n ≤ size
 

@@ -58,12 +58,12 @@ module _ (c : Case) (capacity size : ℕ) (h : InLimits c capacity size) where
         let (some_zones, few-zones, long) = room_of c capacity size h in
         record {
           horizon = c.horizon.0;
-          limits = rw (e.times_in_lem.0, e.start_in_lem.0, e.target_in.0) (limits_of c capacity size h);
-          in_parts_lem = rw (e.times_in_lem.0, e.start_in_lem.0, e.target_in.0) (p ∙ parts_are c few);
+          limits = rw (e.times_held.0, e.start_held.0, e.target_held.0) (limits_of c capacity size h);
+          parts_told = rw (e.times_held.0, e.start_held.0, e.target_held.0) (p ∙ parts_are c few);
           within = k;
-          table = in_table few times e.times_in_lem.1;
-          start_in_lem = in_pattern few start e.start_in_lem.1 refl;
-          target_in = in_pattern few target e.target_in.1 refl;
+          table = in_table few times e.times_held.1;
+          start_held = in_pattern few start e.start_held.1 refl;
+          target_held = in_pattern few target e.target_held.1 refl;
           some_zones = some_zones;
           long = long;
         }
@@ -71,11 +71,11 @@ module _ (c : Case) (capacity size : ℕ) (h : InLimits c capacity size) where
     -- so can its powers, and what is found in them is the definition's first repeated power
     pub powers_ready : TableReady c.n table
     unfolding network
-    powers_ready = record { table = in_table few times e.times_in_lem.1; limits = rw e.times_in_lem.0 (limits_of c capacity size h).table }
+    powers_ready = record { table = in_table few times e.times_held.1; limits = rw e.times_held.0 (limits_of c capacity size h).table }
 
     pub repeat_is : repeat_in c.n table ≡ repeat_of (network c)
     unfolding repeat_of network
-    repeat_is = rw e.times_in_lem.0
+    repeat_is = rw e.times_held.0
 
     -- the searched horizon is that of the definition
     pub planned : (rep : Repeated) (free : Bool) {p : Plan}
@@ -83,7 +83,7 @@ module _ (c : Case) (capacity size : ℕ) (h : InLimits c capacity size) where
         → free ≡ (only_differences c.n (bounds_in from) || only_differences c.n (bounds_in to))
         → Planned (plan_with c.horizon.0 (repeat_read rep) free) p → Planned (plan (network c)) p
     unfolding plan network
-    planned rep free r f p = rw (r, f, e.start_in_lem.0, e.target_in.0) at p
+    planned rep free r f p = rw (r, f, e.start_held.0, e.target_held.0) at p
 
     -- and what the search over it answers is the outcome
     pub found : {p : Plan} {r : Answer} → Planned (plan (network c)) p
@@ -92,7 +92,7 @@ module _ (c : Case) (capacity size : ℕ) (h : InLimits c capacity size) where
     found pl s =
         let w = network c in
         let same = same_search w (plan w).cycles capacity (plan w).cycles 1 (lists w 0) (plan w).end in
-        (rw (pl.cycles, pl.end, e.times_in_lem.0, e.start_in_lem.0, e.target_in.0) at s) ∙ ap answered same
+        (rw (pl.cycles, pl.end, e.times_held.0, e.start_held.0, e.target_held.0) at s) ∙ ap answered same
 
 -- the searched horizon is within the horizon
 pub plan_within : (w : Network) → (plan w).cycles ≤ w.horizon

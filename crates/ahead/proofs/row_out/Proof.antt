@@ -23,7 +23,7 @@ decreases-loop part table times n r s₀ s = suc n - s
 loop-holds : tie.Need-loop-s-init invariant-loop decreases-loop
 loop-holds c = (λ t h k. absurd (let l = k.from_one in omega arith), omega arith, omega arith)
 
-column-out-requires : tie.Need-column_out-requires invariant-loop decreases-loop
+column-out-requires : tie.Need-column_out-out-requires invariant-loop decreases-loop
 column-out-requires c κs =
     let p = c.requires in
     (p.0, record { table = p.0.table; row_from = p.1; row_to = p.2; col_from = c.loop-s.invariant.1; col_to = omega arith })
@@ -31,7 +31,7 @@ column-out-requires c κs =
 loop-again : tie.Need-loop-s-preserved invariant-loop decreases-loop
 loop-again c = (
   λ t h k. elim (ℕ_discrete t c.loop-s.s) [
-    | yes e ↦ rw e (c.column_out.ensures (not-false _ c.if-not-column_out.false-raw) (rw e at k))
+    | yes e ↦ rw e (c.column_out-out.ensures (not-false _ c.if-not-out.false-raw) (rw e at k))
     | no e ↦ c.loop-s.invariant.0 t (omega arith) k
   ],
   omega arith,

@@ -20,9 +20,9 @@ few c = departures c.args.case (sound c)
 -- the case in memory
 in_memory : (c : After-bounds_in-target) → CaseIn c.args.case c.times_in-times.result c.bounds_in-start.result c.bounds_in-target.result
 in_memory c = record {
-  times_in_lem = rw c.table_size-count.ensures at c.times_in-times.ensures;
-  start_in_lem = rw c.pattern_size-size.ensures at c.bounds_in-start.ensures;
-  target_in = rw c.pattern_size-size.ensures at c.bounds_in-target.ensures;
+  times_held = rw c.table_size-count.ensures at c.times_in-times.ensures;
+  start_held = rw c.pattern_size-size.ensures at c.bounds_in-start.ensures;
+  target_held = rw c.pattern_size-size.ensures at c.bounds_in-target.ensures;
 }
 
 pub table_size-count-requires : goal.table_size-count-requires
@@ -49,17 +49,17 @@ bounds_in-target-requires c =
 -- each part of the case has room in its array
 times_room : (c : After-bounds_in-target) → c.table_size-count.result ≤ length c.times_in-times.result
 times_room c =
-    table_room (departures c.args.case (accepted_case c.args.case c.args.horizon c.requires)) c.times_in-times.result (in_memory c).times_in_lem.1
+    table_room (departures c.args.case (accepted_case c.args.case c.args.horizon c.requires)) c.times_in-times.result (in_memory c).times_held.1
     c.table_size-count.ensures
 
 start_room : (c : After-bounds_in-target) → c.pattern_size-size.result ≤ length c.bounds_in-start.result
 start_room c =
-    pattern_room (departures c.args.case (accepted_case c.args.case c.args.horizon c.requires)) c.bounds_in-start.result (in_memory c).start_in_lem.1
+    pattern_room (departures c.args.case (accepted_case c.args.case c.args.horizon c.requires)) c.bounds_in-start.result (in_memory c).start_held.1
     c.pattern_size-size.ensures
 
 target_room : (c : After-bounds_in-target) → c.pattern_size-size.result ≤ length c.bounds_in-target.result
 target_room c =
-    pattern_room (departures c.args.case (accepted_case c.args.case c.args.horizon c.requires)) c.bounds_in-target.result (in_memory c).target_in.1
+    pattern_room (departures c.args.case (accepted_case c.args.case c.args.horizon c.requires)) c.bounds_in-target.result (in_memory c).target_held.1
     c.pattern_size-size.ensures
 
 pub slice_bounds-times-end : goal.slice_bounds-times-end

@@ -26,15 +26,15 @@ less_small z h = omega (ints, abs_ud z, abs_ud (z -ℤ pos 1), sub_ud z (pos 1),
 sub-t5 : tie.Need-overflow_sub-result
 sub-t5 c = rw (told c.args.c.0 c.requires) (less_fits c.args.c.0 c.requires)
 
-returns : tie.Need-returns-then-j-s
+returns : tie.Need-returns-then-earlier
 unfolding lead
 returns c =
     let z = c.args.c.0 in
-    rw (told z c.requires, to_z-of_z w64 _ (less_fits z c.requires), lt-ltb _ _ c.if-j-s.true) (refl, less_small z c.requires)
+    rw (told z c.requires, to_z-of_z w64 _ (less_fits z c.requires), lt-ltb _ _ c.if-earlier.true) (refl, less_small z c.requires)
 
 returns-2 : tie.Need-returns
 unfolding lead
-returns-2 c = let h = c.requires in rw (le-ltb _ _ c.if-j-s.false) (refl, omega arith)
+returns-2 c = let h = c.requires in rw (le-ltb _ _ c.if-earlier.false) (refl, omega arith)
 
 pub lead_spec : {M : Type 1} → statement M
 lead_spec = tie.close (tie.spec sub-t5 returns returns-2)

@@ -26,8 +26,8 @@ pub select-returns : goal.select-returns
 select-returns t c = going_done c.requires c.loop-s.invariant c.loop-s-test.false
 
 -- ---- a column
-pub take_column-returns-then-unfit : goal.take_column-returns-then-unfit
-take_column-returns-then-unfit t c = taken_unfit c.requires (c.unfit.ensures c.if-unfit.true)
+pub take_column-returns-then-out : goal.take_column-returns-then-out
+take_column-returns-then-out t c = taken_unfit c.requires (c.unfit-out.ensures c.if-out.true)
 
 pub take_column-returns-then-i-n : goal.take_column-returns-then-i-n
 take_column-returns-then-i-n t c =

@@ -82,44 +82,44 @@ room c = front_room _ _ c.loop-k.invariant.1 c.store.new.list c.store.auto.list
 slice-aggregate-common : tie.Need-slice_bounds-common-end invariant-loop decreases-loop
 slice-aggregate-common c = sym (front_long _ _ (room c.before.before))
 
-common-requires : tie.Need-common-requires invariant-loop decreases-loop
+common-requires : tie.Need-common-some-requires invariant-loop decreases-loop
 common-requires c κs =
     let m = c.requires in
     rw (again c.before.before) (common_ready _ m.meets (zone_joins c.loop-k-test.true m (loaded c.before.before)))
 
 -- what is left of it
-left : (c : tie.After-common invariant-loop decreases-loop) →
+left : (c : tie.After-common-some invariant-loop decreases-loop) →
     let a = c.args in
-    Left (common a.n (bounds_in c.store.new.list) (bounds_in a.pattern.now)) c.common.result (bounds_in c.common.new.zone)
+    Left (common a.n (bounds_in c.store.new.list) (bounds_in a.pattern.now)) c.common-some.result (bounds_in c.common-some.new.zone)
 unfolding common
-left c = rw (again c.before.before.before) at c.common.ensures
+left c = rw (again c.before.before.before) at c.common-some.ensures
 
-room_left : (c : tie.After-common invariant-loop decreases-loop) →
+room_left : (c : tie.After-common-some invariant-loop decreases-loop) →
     let size = c.zone_size-size.result in
-    size ≤ length (c.common.new.zone ++ drop size (c.store.new.list ++ drop size c.loop-k.zone))
-room_left c = front_room _ _ (room c.before.before.before) c.common.new.zone c.common.auto.zone
+    size ≤ length (c.common-some.new.zone ++ drop size (c.store.new.list ++ drop size c.loop-k.zone))
+room_left c = front_room _ _ (room c.before.before.before) c.common-some.new.zone c.common-some.auto.zone
 
 slice-aggregate-start : tie.Need-slice_bounds-start-end invariant-loop decreases-loop
 slice-aggregate-start c = sym (front_long _ _ (room_left c.before.before.before))
 
 start-requires : tie.Need-start-start-requires invariant-loop decreases-loop
 start-requires c κs =
-    let long = c.common.auto.zone ∙ front_long _ _ (room c.before.before.before.before.before.before) ∙ c.zone_size-size.ensures in
-    rw (front_is _ _ (room c.before.before.before.before.before.before) c.common.new.zone c.common.auto.zone)
-    (found_ready c.loop-k-test.true c.loop-k.invariant.0 (loaded c.before.before.before.before.before.before) _ (left c.before.before.before) c.requires long c.if-common.true)
+    let long = c.common-some.auto.zone ∙ front_long _ _ (room c.before.before.before.before.before.before) ∙ c.zone_size-size.ensures in
+    rw (front_is _ _ (room c.before.before.before.before.before.before) c.common-some.new.zone c.common-some.auto.zone)
+    (found_ready c.loop-k-test.true c.loop-k.invariant.0 (loaded c.before.before.before.before.before.before) _ (left c.before.before.before) c.requires long c.if-some.true)
 
-returns : tie.Need-returns-then-common invariant-loop decreases-loop
+returns : tie.Need-returns-then-some invariant-loop decreases-loop
 unfolding found_by
 returns c =
     rw (
-      looking_found c.loop-k-test.true c.loop-k.invariant.0 (loaded c.before.before.before.before.before.before.before) _ (left c.before.before.before.before) c.if-common.true,
+      looking_found c.loop-k-test.true c.loop-k.invariant.0 (loaded c.before.before.before.before.before.before.before) _ (left c.before.before.before.before) c.if-some.true,
       c.start-start.ensures,
-      front_is _ _ (room c.before.before.before.before.before.before.before) c.common.new.zone c.common.auto.zone,
+      front_is _ _ (room c.before.before.before.before.before.before.before) c.common-some.new.zone c.common-some.auto.zone,
     )
 
 loop-again : tie.Need-loop-k-preserved invariant-loop decreases-loop
 loop-again c =
-    (looking_on c.loop-k-test.true c.loop-k.invariant.0 (loaded c.before.before.before.before.before) _ (left c.before.before) c.if-common.false, room_left c.before.before)
+    (looking_on c.loop-k-test.true c.loop-k.invariant.0 (loaded c.before.before.before.before.before) _ (left c.before.before) c.if-some.false, room_left c.before.before)
 
 returns-2 : tie.Need-returns invariant-loop decreases-loop
 unfolding found_by

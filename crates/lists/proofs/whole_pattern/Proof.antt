@@ -19,42 +19,42 @@ use Rattle.lists.proofs.whole_pattern.Tie as tie
 departures : (c : tie.Start) → Departures c.args.n
 departures c = c.requires.meets.limits.departures
 
-first-list-requires : tie.Need-first_list-requires
+first-list-requires : tie.Need-first_list-none-requires
 first-list-requires c κs =
     (c.requires.meets, rw length-replicate (zone_fits (departures c.before.before)))
 
 -- the array is as long as it was
-long : (c : tie.After-first_list) → length c.first_list.new.work ≡ most_numbers
-long c = c.first_list.auto.work ∙ simp length-replicate
+long : (c : tie.After-first_list-none) → length c.first_list-none.new.work ≡ most_numbers
+long c = c.first_list-none.auto.work ∙ simp length-replicate
 
-returns : tie.Need-returns-then-first_list-eq0
+returns : tie.Need-returns-then-none
 returns c =
     record {
-      none_left = λ e. zone_none c.first_list.ensures c.if-first_list-eq0.true;
+      none_left = λ e. zone_none c.first_list-none.ensures c.if-none.true;
       some_left = λ e. impossible cc;
       long = simp length-replicate;
     }
 
 array-share-prefix-zone : tie.Need-slice_bounds-zone-end
 array-share-prefix-zone c =
-    part_room (departures c.before.before.before.before.before) c.zone_size-size.ensures c.first_list.new.work (long c.before.before)
+    part_room (departures c.before.before.before.before.before) c.zone_size-size.ensures c.first_list-none.new.work (long c.before.before)
 
 slice-aggregate-whole-zone : tie.Need-slice_bounds-whole_zone-end
 slice-aggregate-whole-zone c =
-    sym (part_long (departures c.before.before.before.before.before.before) c.zone_size-size.ensures c.first_list.new.work (long c.before.before.before))
+    sym (part_long (departures c.before.before.before.before.before.before) c.zone_size-size.ensures c.first_list-none.new.work (long c.before.before.before))
 
 -- the zone of the pattern
-made : (c : tie.Else-first_list-eq0) →
+made : (c : tie.Else-none) →
     let a = c.args in
-    tighten (suc a.n) (pattern_constraints a.n (bounds_in a.pattern.now)) ≡ some (bounds_in (take c.zone_size-size.result c.first_list.new.work))
+    tighten (suc a.n) (pattern_constraints a.n (bounds_in a.pattern.now)) ≡ some (bounds_in (take c.zone_size-size.result c.first_list-none.new.work))
 made c =
-    zone_some c.first_list.ensures c.if-first_list-eq0.false
-    ∙ ap (λ numbers. some (bounds_in numbers)) (sym (part_is (departures c.before.before.before.before.before) c.zone_size-size.ensures c.first_list.new.work (long c.before.before)))
+    zone_some c.first_list-none.ensures c.if-none.false
+    ∙ ap (λ numbers. some (bounds_in numbers)) (sym (part_is (departures c.before.before.before.before.before) c.zone_size-size.ensures c.first_list-none.new.work (long c.before.before)))
 
 whole-zone-requires : tie.Need-whole_zone-wholes-requires
 whole-zone-requires c κs =
     zone_ready c.requires _ (made c.before)
-    (part_long (departures c.before.before.before.before.before.before) c.zone_size-size.ensures c.first_list.new.work (long c.before.before.before) ∙ c.zone_size-size.ensures)
+    (part_long (departures c.before.before.before.before.before.before) c.zone_size-size.ensures c.first_list-none.new.work (long c.before.before.before) ∙ c.zone_size-size.ensures)
 
 returns-2 : tie.Need-returns
 returns-2 c =

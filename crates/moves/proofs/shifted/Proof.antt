@@ -12,15 +12,15 @@ use Rattle.moves.proofs.Numbers.{none_there, halves_there, twice_fits, sum_narro
 use Rattle.moves.proofs.shifted.Statement.{statement}
 use Rattle.moves.proofs.shifted.Tie as tie
 
-returns : tie.Need-returns-then-raw-eq-NONE
+returns : tie.Need-returns-then-none
 unfolding bound_in same_z plus
-returns c = rw (none_there _ c.ranges.raw c.if-raw-eq-NONE.true)
+returns c = rw (none_there _ c.ranges.raw c.if-none.true)
 
 -- the bound is not none, and the sum can be stored
-bounded : (c : tie.Else-raw-eq-NONE) → bound_in c.args.raw ≡ of_halves c.args.raw
-bounded c = halves_there _ c.if-raw-eq-NONE.false
+bounded : (c : tie.Else-none) → bound_in c.args.raw ≡ of_halves c.args.raw
+bounded c = halves_there _ c.if-none.false
 
-small : (c : tie.Else-raw-eq-NONE) → Small Limit (plus (of_halves c.args.raw) (most c.args.by.0))
+small : (c : tie.Else-none) → Small Limit (plus (of_halves c.args.raw) (most c.args.by.0))
 small c = rw (bounded c) at c.requires.1
 
 told : (c : tie.After-struct_told-1) → let a = c.args in

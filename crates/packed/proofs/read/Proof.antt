@@ -18,13 +18,13 @@ unfolding parse
 returns c =
     c.refused.ensures ∙ simp (answered (field_read 0) (c.bits.ensures 0) c.in_default.is)
 
-returns-2 : tie.Need-returns-then-lead-eq0
+returns-2 : tie.Need-returns-then-wide
 unfolding parse
-returns-2 c = c.read_wide.ensures ∙ simp (rw c.if-lead-eq0.true at (lead_read c.before.before))
+returns-2 c = c.read_wide.ensures ∙ simp (rw c.if-wide.true at (lead_read c.before.before))
 
 returns-3 : tie.Need-returns
 unfolding parse
-returns-3 c = c.read_old.ensures ∙ simp (lead_read c.before.before, ne_eqb _ 0 c.if-lead-eq0.false)
+returns-3 c = c.read_old.ensures ∙ simp (lead_read c.before.before, ne_eqb _ 0 c.if-wide.false)
 
 pub read_spec : {M : Type 1} → statement M
 read_spec =

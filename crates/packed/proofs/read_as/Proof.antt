@@ -48,11 +48,11 @@ cycles_read c =
     answered (field_read p) (c.bits-3.ensures p) c.in-Got-bits-2.is
 
 -- the bits in front are 0, and then n is not
-past_lead : (c : tie.Else-lead-ne0) →
+past_lead : (c : tie.Else-other) →
     let a = c.args in
     parse_as a.form a.s.now ≡ behind_lead a.form a.s.now c.in-Got.after_lead.at
 unfolding parse_as
-past_lead c = simp (rw c.if-lead-ne0.false at (lead_read c.before))
+past_lead c = simp (rw c.if-other.false at (lead_read c.before))
 
 past_count : (c : tie.Else-n-eq0) →
     let a = c.args in
@@ -64,10 +64,10 @@ unfolding parse_as
 returns c =
     c.refused.ensures ∙ simp (answered (field_read 0) (c.bits.ensures 0) c.in_default.is)
 
-returns-2 : tie.Need-returns-then-lead-ne0
+returns-2 : tie.Need-returns-then-other
 unfolding parse_as
 returns-2 c =
-    c.refused-then-lead-ne0.ensures ∙ simp (lead_read c.before.before, lt-ltb 0 c.in-Got.lead (omega arith))
+    c.refused-then-other.ensures ∙ simp (lead_read c.before.before, lt-ltb 0 c.in-Got.lead (omega arith))
 
 bits-requires-2 : tie.Need-bits-requires-2
 bits-requires-2 c κs = let n = given (bits_give _ _ 0 0) (lead_read c.before) in omega arith

@@ -50,7 +50,7 @@ head-requires c κs =
 
 entries-requires : tie.Need-entries-after_times-requires
 entries-requires c κs =
-    (omega (arith, after_head c.before.before.before), omega arith, c.requires.0.times_in_lem)
+    (omega (arith, after_head c.before.before.before), omega arith, c.requires.0.times_held)
 
 patterns-requires : tie.Need-patterns-after_patterns-requires
 patterns-requires c κs =

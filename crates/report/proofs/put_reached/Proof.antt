@@ -7,7 +7,7 @@ use Rattle.report.specs.Text.{of_parts}
 use Rattle.report.proofs.put_reached.Statement.{statement}
 use Rattle.report.proofs.put_reached.Tie as tie
 
-returns : tie.Need-returns-then-parts-le1
+returns : tie.Need-returns-then-whole
 unfolding of_parts
 returns c =
     rw (le-ltb 1 c.args.parts (omega arith))

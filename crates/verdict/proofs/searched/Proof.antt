@@ -49,9 +49,9 @@ in_memory : (c : tie.After-bounds_in-target) →
     CaseIn c.args.case c.times_in-times.result c.bounds_in-start.result c.bounds_in-target.result
 in_memory c =
     record {
-      times_in_lem = rw c.table_size-count.ensures at c.times_in-times.ensures;
-      start_in_lem = rw c.pattern_size-size.ensures at c.bounds_in-start.ensures;
-      target_in = rw c.pattern_size-size.ensures at c.bounds_in-target.ensures;
+      times_held = rw c.table_size-count.ensures at c.times_in-times.ensures;
+      start_held = rw c.pattern_size-size.ensures at c.bounds_in-start.ensures;
+      target_held = rw c.pattern_size-size.ensures at c.bounds_in-target.ensures;
     }
 
 -- the parts of the arrays that are lent

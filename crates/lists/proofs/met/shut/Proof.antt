@@ -24,12 +24,12 @@ shut-requires c κs =
     let size = c.zone_size-size.result in
     let seen = c.args.seen.now in (
       record {
-        table = p.times_in_lem;
+        table = p.times_held;
         set = record {
-          few = p.table_in_lem.few;
+          few = p.table_held.few;
           size = rw (lent_at size c.free.result seen) (length_numbers size seen c.free.result (inside c.before)) ∙ c.zone_size-size.ensures;
         };
-        needs_in = p.table_in_lem;
+        needs_in = p.table_held;
       },
       rw (add-one c.args.i) (record {
         from_one = omega arith;

@@ -24,14 +24,14 @@ unfit-requires c κs =
     let seen = c.args.seen.now in
     record {
       looking = record {
-        table = p.times_in_lem;
+        table = p.times_held;
         set = record {
-          few = p.table_in_lem.few;
+          few = p.table_held.few;
           size = rw (lent_at size c.free.result seen) (length_numbers size seen c.free.result (inside c.before)) ∙ c.zone_size-size.ensures;
         };
-        needs_in = p.table_in_lem;
+        needs_in = p.table_held;
       };
-      adds = record { table = p.times_in_lem; row = p.row; column = chosen_at p.from_one p.column };
+      adds = record { table = p.times_held; row = p.row; column = chosen_at p.from_one p.column };
       column = p.column.to_n;
     }
 

@@ -18,12 +18,12 @@ long c = simp length-append
 
 entries-requires : tie.Need-entries-pen-requires
 entries-requires c κs =
-    rw c.bound_widths-widths.ensures (omega (arith, long c.before.before.before), omega arith, c.requires.1.start_in_lem)
+    rw c.bound_widths-widths.ensures (omega (arith, long c.before.before.before), omega arith, c.requires.1.start_held)
 
 entries-requires-2 : tie.Need-entries-requires
 entries-requires-2 c κs =
     let first = rw c.bound_widths-widths.ensures at c.entries-pen.ensures in
-    rw c.bound_widths-widths.ensures (omega (arith, long c.before.before.before.before.before.before.before), omega arith, c.requires.1.target_in)
+    rw c.bound_widths-widths.ensures (omega (arith, long c.before.before.before.before.before.before.before), omega arith, c.requires.1.target_held)
 
 returns : tie.Need-returns
 returns c =
