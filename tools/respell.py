@@ -12,6 +12,7 @@ import collections
 import os
 import re
 import sys
+import tempfile
 
 WORD = re.compile(r'[^\s(){}.;,@"«»⌜⌝`]+')
 DECLARED = re.compile(
@@ -66,8 +67,8 @@ TOLD_APART = {
     "of-halves": "of_halves_lem",
 }
 
-# What port.py respelled itself, for the texts that it does not turn.
-SAID = "/tmp/port-said/upgrade.txt"
+# Where port.py leaves what it respelled itself, for the texts that it does not turn.
+SAID = os.path.join(tempfile.gettempdir(), "port-said", "upgrade.txt")
 
 
 def snake(name):

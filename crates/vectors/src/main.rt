@@ -20,7 +20,7 @@
 
 ghost use Rattle.std.specs.Prelude.{◌≤◌, length, IfOk};
 
-use std::io::{self, Print, Read};
+use std::io::{self, ErrorKind, Print, Read};
 use std::rt::{Stdin, Stdout};
 
 mod answers;
@@ -41,7 +41,7 @@ fn main(rt: HostRuntime) -> io::Result<()> {
     lines(out, &input[..size])
 }
 
-// Reads until the input ends or there is no room.
+// Reads until the input ends or there is no room. A read that is interrupted is made again.
 fn read_all(mut stdin: Stdin, input: &mut [u8]) -> io::Result<usize>
     ensures { IfOk result (λ size. size ≤ length input.new) }
 {
@@ -50,10 +50,14 @@ fn read_all(mut stdin: Stdin, input: &mut [u8]) -> io::Result<usize>
         if size >= input.len() {
             break;
         }
-        let more = stdin.read(&mut input[size..])?;
-        size += more;
-        if more == 0 {
-            break;
+        match stdin.read(&mut input[size..]) {
+            Ok(0) => break,
+            Ok(more) => size += more,
+            Err(e) => {
+                if e.kind() != ErrorKind::Interrupted {
+                    return Err(e);
+                }
+            }
         }
     }
     Ok(size)
