@@ -102,7 +102,8 @@ module _ {n parts horizon : ℕ} {times start target : List ℤ} (r : MemoryRead
     }
 
     -- the decision between them is that on the network
-    pub decided_so : {may : Bool} (steps : ℕ) {x : Decided} → may ≡ (only_differences n (Memory.bounds_in start) || only_differences n (Memory.bounds_in target))
+    pub decided_so : {may : Bool} (steps : ℕ) {x : Decided}
+        → may ≡ (only_differences n (Memory.bounds_in start) || only_differences n (Memory.bounds_in target))
         → x ≡ told parts (searched n times parts may z d horizon steps) → InMemory n parts horizon steps times start target x
     decided_so {may} steps e f = record {
       is = λ own.

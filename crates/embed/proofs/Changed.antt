@@ -72,7 +72,8 @@ module _ {k : ℕ} {e : Slot} {present : List ℕ} {values : List ℤ} {flags : 
 
   module _ (strict : List ℕ) where
     -- the bounds from a later place on
-    pattern_put : (first : ℕ) → k < first → tabulate most_bounds first (limit_at flags strict times) ≡ tabulate most_bounds first (limit_at present strict values)
+    pattern_put : (first : ℕ) → k < first → tabulate most_bounds first (limit_at flags strict times)
+        ≡ tabulate most_bounds first (limit_at present strict values)
     unfolding limit_at
     pattern_put first l = tabulate_ext most_bounds first _ _ (λ i from to. rw (others i (λ e. omega arith)))
 

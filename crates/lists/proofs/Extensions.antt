@@ -75,7 +75,8 @@ module _ (n : ℕ) (a : List Time) (d : Matrix) where
       ∙ ap (λ f. flat_map f (columns n a i n 1)) (fun_ext (λ s.
       map-map _ (λ rest. s ∷ rest) (selections n a below (suc i))
       ∙ ap (λ f. map f (selections n a below (suc i)))
-      (fun_ext (λ rest. foldl-append (constrain (suc n)) (some part) (row_constraints n a d cols i s) (rows_constraints n a d (cols ++ (s ∷ [])) (suc i) rest)))))
+      (fun_ext (λ rest. foldl-append (constrain (suc n)) (some part) (row_constraints n a d cols i s)
+      (rows_constraints n a d (cols ++ (s ∷ [])) (suc i) rest)))))
       ∙ ap (λ (t : ℕ). flat_map (column_sets n a d part cols i) (columns n a i t 1)) w)
 
   -- all rows picked

@@ -25,7 +25,8 @@ use Rattle.starts.specs.Conditions.{StartReady}
 use Rattle.lists.specs.Lists.{zone_at, list_in, Meets, FirstList, Wholable}
 
 -- a pattern with bounds in their limit can be met with all times
-pub pattern_meets : {n : ℕ} {pattern : List ℤ} → PatternIn n pattern → PatternSmall n bound_limit (bounds_in pattern) → Meets n pattern (everything (suc n) ∷ [])
+pub pattern_meets : {n : ℕ} {pattern : List ℤ} → PatternIn n pattern → PatternSmall n bound_limit (bounds_in pattern)
+    → Meets n pattern (everything (suc n) ∷ [])
 pattern_meets {n} {pattern} p small = record {
   limits = p;
   each = both (record { closed = everything_closed (suc n); meetable = target_meetable n (bounds_in pattern) p.departures.few small }) done;

@@ -83,7 +83,8 @@ module _ (w : Network) where
         go false o e more = more (differ _ _ e)
 
   -- the first repeated power is looked for, from power s + 1 on
-  first_repeat_is : (k s : ℕ) → s + k ≡ most_cycles → Below New s → Found (Below New most_cycles) (first_repeat (suc s) (tabulate s 0 powers) (tabulate k s powers))
+  first_repeat_is : (k s : ℕ) → s + k ≡ most_cycles → Below New s
+      → Found (Below New most_cycles) (first_repeat (suc s) (tabulate s 0 powers) (tabulate k s powers))
   unfolding first_repeat tabulate
   first_repeat_is zero s d h = λ q l. h q (omega arith)
   first_repeat_is (suc k) s d h =

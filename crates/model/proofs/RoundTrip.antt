@@ -103,7 +103,8 @@ module _ {f : Form} (lim : FormLimits f) (s : List ℕ) where
   bounds_of count es long h = first_of (bound_kind f) (bound_lawful lim) s count es long (every_map (λ e b p. (bound_fault_in_none f p e).1 b) h)
 
   -- the bits of a case are read as the case without what is ignored
-  pub parse_of : (c : Case) → form_fault f c ≡ none → Whole c → Spells s 0 (filled (case_bits f c)) (8 * length s) → parse_as f s ≡ got (tidied c) (8 * length s)
+  pub parse_of : (c : Case) → form_fault f c ≡ none → Whole c → Spells s 0 (filled (case_bits f c)) (8 * length s)
+      → parse_as f s ≡ got (tidied c) (8 * length s)
   unfolding form_fault patterns_fault outside parse_as body case_bits tidied
   parse_of c h whole r =
       let facts = simp no_fault at h in

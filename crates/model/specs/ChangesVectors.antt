@@ -62,7 +62,8 @@ vectors =
     ∷ []
 
 pub all_right : AllRight vectors
-unfolding any_of is_time regular F.time_of F.beyond F.over F.bound_fault F.entry_fault F.rows_fault F.outside F.table_fault F.patterns_fault F.case_fault F.room_fault
+unfolding any_of is_time regular F.time_of F.beyond F.over F.bound_fault F.entry_fault F.rows_fault F.outside F.table_fault F.patterns_fault
+    F.case_fault F.room_fault
     F.call_fault answer workspace_after changed change_fault preview workspace_after_preview commit_fault commit
 all_right = (
   λ capacity work. (refl, refl),

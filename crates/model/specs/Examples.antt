@@ -141,7 +141,8 @@ unfolding L.tabulate L.any_of L.all_of mathlib.Core.List.flatten mathlib.Core.Li
     N.same_time L.same_lists N.repeats N.first_repeat N.repeat_of X.columns X.selections X.chosen X.slack X.attains X.keeps X.row_constraints X.rows_constraints
     X.preimage X.keep X.previous X.lists X.common X.first_common X.tightest X.above X.below X.greatest_or X.choices X.pick B.scale B.whole X.is_strict
     X.parts_of X.bounds_of X.wholes X.start_in X.plan_with X.plan X.settled X.dry X.search_by X.search_from X.outcome F.time_of F.bound_of
-    F.network F.beyond F.over F.bound_fault F.entry_fault F.rows_fault F.outside F.table_fault F.patterns_fault F.case_fault F.room_fault F.call_fault F.run_fault
+    F.network F.beyond F.over F.bound_fault F.entry_fault F.rows_fault F.outside F.table_fault F.patterns_fault F.case_fault F.room_fault
+    F.call_fault F.run_fault
     answer run N.scale_time N.in_parts run_in_parts
 all_right = (refl, (refl, (refl, (refl, (refl, (refl, (refl, (refl, (refl, (refl, (refl, (refl, (refl, (refl, (refl, (refl, (refl, rest)))))))))))))))))
   where

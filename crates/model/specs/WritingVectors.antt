@@ -85,8 +85,10 @@ pub longest : (most_bits ≡ 15328) × (most_bytes ≡ 1916)
 longest = (refl, refl)
 
 pub all_right : AllRight old_vectors × AllRight wide_vectors
-unfolding tabulate any_of mathlib.Core.List.flat_map is_time regular F.time_of F.beyond F.over F.bound_fault F.bound_fault_in F.entry_fault F.rows_fault F.outside
-    F.patterns_fault F.form_fault num_of raw_of W.field_bits W.bytes_of W.entry_bits W.entries_bits W.case_bits packed_as W.room_for write_fault told output_after
+unfolding tabulate any_of mathlib.Core.List.flat_map is_time regular F.time_of F.beyond F.over F.bound_fault F.bound_fault_in F.entry_fault
+    F.rows_fault F.outside
+    F.patterns_fault F.form_fault num_of raw_of W.field_bits W.bytes_of W.entry_bits W.entries_bits W.case_bits packed_as W.room_for
+    write_fault told output_after
 all_right = (
   (refl, (refl, (refl, (refl, (refl, (refl, (refl, (refl, (refl, (refl, (refl, tt))))))))))),
   (refl, (refl, (refl, (refl, (refl, tt))))),

@@ -36,5 +36,6 @@ pub powers_small : (n : ℕ) (a : List Time) → TimesSmall n a → (r : ℕ) �
 powers_small n a small r h = every_map (λ t l. omega arith) (power_small n a (entries_small n a small) r)
 
 -- the sum of an entry of each
-pub sum_small : {a b : List Time} → AtMost power_limit a → AtMost power_limit b → (k l : ℕ) → nat_abs (secs_of (after (get_or a k blank) (get_or b l blank))) < none_in
+pub sum_small : {a b : List Time} → AtMost power_limit a → AtMost power_limit b → (k l : ℕ)
+    → nat_abs (secs_of (after (get_or a k blank) (get_or b l blank))) < none_in
 sum_small {a} {b} p q k l = omega (arith, after_small (get_or a k blank) (get_or b l blank) (entry_small p k) (entry_small q l))

@@ -47,7 +47,8 @@ later_by z s e = rw (← e) (go (same_z z (pos none_in)))
     go false = refl
 
 -- a number that is read, and the test of two numbers by their bits
-pub read : (z : List ℤ) (k : ℕ) → k < length z → SFits w32 (get_or z k (pos 0)) → time_in (to_z w32 (of_z w32 (get_or z k (pos 0)))) ≡ get_or (times_in z) k blank
+pub read : (z : List ℤ) (k : ℕ) → k < length z → SFits w32 (get_or z k (pos 0))
+    → time_in (to_z w32 (of_z w32 (get_or z k (pos 0)))) ≡ get_or (times_in z) k blank
 unfolding times_in
 read z k h f = ap time_in (to_z-of_z w32 _ f) ∙ sym (get_d_in time_in z k (pos 0) blank h)
 

@@ -39,7 +39,8 @@ examples =
     ∷ []
 
 pub all_right : AllRight examples
-unfolding L.tabulate L.any_of L.all_of mathlib.Core.List.flatten mathlib.Core.List.flat_map B.bit B.halves B.plus B.tighter B.negative B.same_z B.same_bound M.entry
+unfolding L.tabulate L.any_of L.all_of mathlib.Core.List.flatten mathlib.Core.List.flat_map B.bit B.halves B.plus B.tighter B.negative
+    B.same_z B.same_bound M.entry
     M.matrix M.diagonal M.everything M.relaxed M.within M.constrain M.tighten M.same_matrix P.pair_place P.pair_bound P.pattern_constraints P.is_none
     P.only_differences N.time N.is_time N.regular N.later N.latest N.after N.secs_of N.clocked N.next N.cycle N.cycles N.product N.powers_from N.added N.gap
     N.same_time L.same_lists N.repeats N.first_repeat N.repeat_of X.columns X.selections X.chosen X.slack X.attains X.keeps X.row_constraints X.rows_constraints

@@ -257,7 +257,8 @@ module _ {n parts capacity cycles size : ℕ} {times start target : List ℤ} (q
             (moved_search_lem w c capacity (cycles - suc k) (suc (suc k)) (lists w (suc k)) (next_moved w c k list_moved) o.room e)
 
     module _ {after : List ℤ} {s : Step}
-        (h : Stepped n parts capacity (suc k) source goal count (bounds_in start) (times_in times) (list_in (zone_size n) count (drop source work)) after s) where
+        (h : Stepped n parts capacity (suc k) source goal count (bounds_in start) (times_in times)
+        (list_in (zone_size n) count (drop source work)) after s) where
       -- it is made from list k, in the parts of the network
       is_next : Is-next after s
       is_next = rw (← r.list, ← parts_are) h

@@ -47,7 +47,8 @@ module _ (old new : ℤ) (f : SFits w32 old) where
         let h = halves_size new (rw (← new_tighter, bound_stored new below) at s) in
         narrow new below (omega (ints, h))
 
-  pub old_tighter : up old + dn new ≤ up new + dn old → Small Limit (tighter (bound_in old) (of_halves new)) → bound_in old ≡ tighter (bound_in old) (of_halves new)
+  pub old_tighter : up old + dn new ≤ up new + dn old → Small Limit (tighter (bound_in old) (of_halves new))
+      → bound_in old ≡ tighter (bound_in old) (of_halves new)
   unfolding bound_in tighter
   old_tighter l s = go (same_z old (pos none_in)) refl s
     where

@@ -10,7 +10,8 @@ use Rattle.ahead.proofs.need.Statement.{statement}
 use Rattle.ahead.proofs.need.Tie as tie
 
 abbrev invariant-loop : tie.invariant-loop-o
-invariant-loop times zone n r j least₀ o₀ least o = Least n (λ o. asks (entry (suc n) (bounds_in zone) o r) (row_time n (times_in times) o j)) o (as_bound least)
+invariant-loop times zone n r j least₀ o₀ least o =
+    Least n (λ o. asks (entry (suc n) (bounds_in zone) o r) (row_time n (times_in times) o j)) o (as_bound least)
 
 abbrev decreases-loop : tie.decreases-loop-o
 decreases-loop times zone n r j least₀ o₀ least o = o

@@ -23,7 +23,8 @@ lent c = length-take-le _ (replicate most_times (pos 0)) (omega (arith, c.table_
 from-to-requires : tie.Need-from_to-requires
 from-to-requires c κs =
     let d = c.requires.zones.table.departures in
-    (c.requires, record { sets_size = sets_fit d; tables_size = omega (arith, table_fits d); kept_size = lent c.before.before.before ∙ c.table_size-size.ensures })
+    let kept = lent c.before.before.before ∙ c.table_size-size.ensures in
+    (c.requires, record { sets_size = sets_fit d; tables_size = omega (arith, table_fits d); kept_size = kept })
 
 returns : tie.Need-returns
 returns c = c.from_to.ensures

@@ -25,7 +25,8 @@ between-requires c =
     let from = c.whole_pattern-from in
     let aim = c.whole_pattern-goal in
     record {
-      zones = rw is (zones_ready c.requires (from.ensures.some_left (not-false _ c.if-not-from.false)) (aim.ensures.some_left (not-false _ c.if-not-goal.false)) _ _);
+      zones = rw is (zones_ready c.requires (from.ensures.some_left (not-false _ c.if-not-from.false))
+          (aim.ensures.some_left (not-false _ c.if-not-goal.false)) _ _);
       start = part_zone few is from.result.zone from.ensures.long;
       target = part_zone few is aim.result.zone aim.ensures.long;
     }

@@ -41,7 +41,8 @@ unfolding renewed
 returns c =
     let size = table_size c.args.n in
     let full : length c.put_front.new.tables ≤ size = omega (arith, c.put_front.auto.tables, c.requires.kept_size) in
-    let held = rw (long c.before.before.before.before.before.before, c.table_size-size.ensures, take_all size c.put_front.new.tables full) at c.put_front.ensures in
+    let held = rw (long c.before.before.before.before.before.before, c.table_size-size.ensures, take_all size c.put_front.new.tables full)
+    at c.put_front.ensures in
     record {
       power = c.advance.ensures;
       repeats = compared c.before.before.before.before;

@@ -38,7 +38,9 @@ returns c =
     let told = rw (c.with_count-answer.ensures, judged_is c.before.before.before.before.before) at c.tell_written.ensures in
     let is = sym (judged_is c.before.before.before.before.before) in
     ⊎_elim
-    (λ w. rw (w.present-is, w.values-is) (put_handed _ _ _ _ _ _ _ _ told (is ∙ w.in-Accepted.is) (rw (slot_is c.before.before.before.before.before.before) at w.with_entry-changed.ensures)))
+    (λ w. rw (w.present-is, w.values-is)
+    (put_handed _ _ _ _ _ _ _ _ told (is ∙ w.in-Accepted.is)
+    (rw (slot_is c.before.before.before.before.before.before) at w.with_entry-changed.ensures)))
     (λ w. rw (w.present-is, w.values-is) (kept_handed _ _ _ _ _ _ _ _ told (is ∙ w.in_default.is))) c.match-judged.branch-raw
 
 pub tramcheck_commit_15_spec : {M : Type 1} → statement M

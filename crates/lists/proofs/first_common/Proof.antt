@@ -66,7 +66,8 @@ loaded : (c : tie.After-store invariant-loop decreases-loop) →
     bounds_in c.store.new.list ≡ zone_at (zone_size a.n) (drop a.base a.work.now) c.loop-k.k
 unfolding zone_at
 loaded c =
-    rw (← c.zone_size-size.ensures) (ap bounds_in (c.store.ensures ∙ loaded_is _ _ _ _ (place c.before.before.before.before c.loop-k-test.true) _ (front_long _ _ c.loop-k.invariant.1)))
+    rw (← c.zone_size-size.ensures) (ap bounds_in
+    (c.store.ensures ∙ loaded_is _ _ _ _ (place c.before.before.before.before c.loop-k-test.true) _ (front_long _ _ c.loop-k.invariant.1)))
 
 -- lent again
 again : (c : tie.After-store invariant-loop decreases-loop) →
@@ -106,20 +107,25 @@ start-requires : tie.Need-start-start-requires invariant-loop decreases-loop
 start-requires c κs =
     let long = c.common-some.auto.zone ∙ front_long _ _ (room c.before.before.before.before.before.before) ∙ c.zone_size-size.ensures in
     rw (front_is _ _ (room c.before.before.before.before.before.before) c.common-some.new.zone c.common-some.auto.zone)
-    (found_ready c.loop-k-test.true c.loop-k.invariant.0 (loaded c.before.before.before.before.before.before) _ (left c.before.before.before) c.requires long c.if-some.true)
+    (found_ready c.loop-k-test.true c.loop-k.invariant.0 (loaded c.before.before.before.before.before.before) _
+    (left c.before.before.before) c.requires long c.if-some.true)
 
 returns : tie.Need-returns-then-some invariant-loop decreases-loop
 unfolding found_by
 returns c =
     rw (
-      looking_found c.loop-k-test.true c.loop-k.invariant.0 (loaded c.before.before.before.before.before.before.before) _ (left c.before.before.before.before) c.if-some.true,
+      looking_found c.loop-k-test.true c.loop-k.invariant.0 (loaded c.before.before.before.before.before.before.before) _
+          (left c.before.before.before.before) c.if-some.true,
       c.start-start.ensures,
       front_is _ _ (room c.before.before.before.before.before.before.before) c.common-some.new.zone c.common-some.auto.zone,
     )
 
 loop-again : tie.Need-loop-k-preserved invariant-loop decreases-loop
-loop-again c =
-    (looking_on c.loop-k-test.true c.loop-k.invariant.0 (loaded c.before.before.before.before.before) _ (left c.before.before) c.if-some.false, room_left c.before.before)
+loop-again c = (
+  looking_on c.loop-k-test.true c.loop-k.invariant.0 (loaded c.before.before.before.before.before) _ (left c.before.before)
+      c.if-some.false,
+  room_left c.before.before,
+)
 
 returns-2 : tie.Need-returns invariant-loop decreases-loop
 unfolding found_by

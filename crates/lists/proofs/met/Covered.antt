@@ -117,7 +117,8 @@ module _ {n : ℕ} {times zone : List ℤ} {kept : List Matrix} {seen : List ℤ
   }
 
   -- and noted
-  module _ {i : ℕ} (row : i ≤ most_departures) (v : Covered n (times_in times) (bounds_in zone) kept (suc i) (zone_at (zone_size n) seen (free_at n counts i))) where
+  module _ {i : ℕ} (row : i ≤ most_departures)
+      (v : Covered n (times_in times) (bounds_in zone) kept (suc i) (zone_at (zone_size n) seen (free_at n counts i))) where
     covered_too : (j c : ℕ) → c < get_or (set counts i (get_or counts i 0 + 1)) j 0
         → Covered n (times_in times) (bounds_in zone) kept (suc j) (zone_at (zone_size n) seen (j * places_met n + c))
     covered_too j c h = elim (ℕ_discrete j i) [

@@ -92,7 +92,8 @@ pull-back-requires : tie.Need-pull_back-built-requires invariant-loop decreases-
 pull-back-requires c κs =
     record {
       room = rw (lent_is c.args.goal c.loop-k.work) (goal_room c.requires c.loop-k.invariant.0);
-      sources = source_one c.requires c.loop-k.invariant.0 c.loop-k-test.true (ap bounds_in (lent c.before.before.before.before) ∙ loaded c.before.before.before.before);
+      sources = source_one c.requires c.loop-k.invariant.0 c.loop-k-test.true
+          (ap bounds_in (lent c.before.before.before.before) ∙ loaded c.before.before.before.before);
       source = front_zone _ _ (room c.before.before.before.before) c.requires.sources.table.departures c.zone_size-size.ensures;
       seen_size = omega (arith, c.requires.seen_size, c.loop-k.invariant.1);
     }
@@ -137,7 +138,9 @@ returns c =
 loop-again : tie.Need-loop-k-preserved invariant-loop decreases-loop
 loop-again c =
     let out = c.pull_back-built.new.list in (
-      rw (put_is c.args.goal c.loop-k.work out) (pulling_on c.requires c.loop-k.invariant.0 c.loop-k-test.true out (same c.before.before.before) (held c.before.before.before) c.if-built.false),
+      rw (put_is c.args.goal c.loop-k.work out)
+          (pulling_on c.requires c.loop-k.invariant.0 c.loop-k-test.true out (same c.before.before.before) (held c.before.before.before)
+          c.if-built.false),
       seen_same c.before.before.before,
       room c.before.before.before.before.before.before.before.before,
     )

@@ -104,7 +104,8 @@ unfolding list_in
 returns-2 c =
     let a = c.args in
     let all : a.count - 0 ≡ a.count = omega arith in
-    placed_some _ (left c.before.before.before) c.if-not-add_at.false-raw c.has_at.result (rw (c.zone_size-size.ensures, all, list_same (left c.before.before.before).elsewhere) at c.has_at.ensures)
+    placed_some _ (left c.before.before.before) c.if-not-add_at.false-raw c.has_at.result
+    (rw (c.zone_size-size.ensures, all, list_same (left c.before.before.before).elsewhere) at c.has_at.ensures)
 
 pub next_zone_spec : {M : Type 1} → statement M
 next_zone_spec =

@@ -61,24 +61,31 @@ tabled : (c : tie.After-needs) → let a = c.args in
 tabled c =
     let p = c.requires in
     record {
-      inside = record { few = p.source.few; size = c.needs.auto.table ∙ front_long _ _ (table_room c.before.before.before.before.before) ∙ c.zone_size-size.ensures };
+      inside = record {
+        few = p.source.few;
+        size = c.needs.auto.table ∙ front_long _ _ (table_room c.before.before.before.before.before)
+            ∙ c.zone_size-size.ensures;
+      };
       is = c.needs.ensures;
     }
 
 select-requires : tie.Need-select-requires
 select-requires c κs =
     let p = c.requires in
+    let k = c.before.before.before.before.before.before.before.before.before in
     record {
       room = p.room;
-      tabled = rw (front_is _ _ (table_room c.before.before.before.before.before.before.before.before.before.before.before) c.needs.new.table c.needs.auto.table) (tabled c.before.before.before.before.before.before);
-      ready = row_one p.sources p.source _ (long c.before.before.before.before.before.before.before.before.before) (first c.before.before.before.before.before.before.before.before.before);
-      noted = none_noted p.sources p.source _ (long c.before.before.before.before.before.before.before.before.before) (first c.before.before.before.before.before.before.before.before.before);
+      tabled = rw (front_is _ _ (table_room c.before.before.before.before.before.before.before.before.before.before.before)
+          c.needs.new.table c.needs.auto.table) (tabled c.before.before.before.before.before.before);
+      ready = row_one p.sources p.source _ (long k) (first k);
+      noted = none_noted p.sources p.source _ (long k) (first k);
     }
 
 returns : tie.Need-returns
 returns c =
     let p = c.requires in
-    rw (preimages p.sources p.source _ (long c.before.before.before.before.before.before.before.before.before.before.before.before.before.before) (first c.before.before.before.before.before.before.before.before.before.before.before.before.before.before)) at c.select.ensures.held
+    let k = c.before.before.before.before.before.before.before.before.before.before.before.before.before.before in
+    rw (preimages p.sources p.source _ (long k) (first k)) at c.select.ensures.held
 
 pub pull_back_spec : {M : Type 1} → statement M
 pull_back_spec =

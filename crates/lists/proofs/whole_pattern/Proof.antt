@@ -49,12 +49,14 @@ made : (c : tie.Else-none) →
     tighten (suc a.n) (pattern_constraints a.n (bounds_in a.pattern.now)) ≡ some (bounds_in (take c.zone_size-size.result c.first_list-none.new.work))
 made c =
     zone_some c.first_list-none.ensures c.if-none.false
-    ∙ ap (λ numbers. some (bounds_in numbers)) (sym (part_is (departures c.before.before.before.before.before) c.zone_size-size.ensures c.first_list-none.new.work (long c.before.before)))
+    ∙ ap (λ numbers. some (bounds_in numbers))
+    (sym (part_is (departures c.before.before.before.before.before) c.zone_size-size.ensures c.first_list-none.new.work (long c.before.before)))
 
 whole-zone-requires : tie.Need-whole_zone-wholes-requires
 whole-zone-requires c κs =
     zone_ready c.requires _ (made c.before)
-    (part_long (departures c.before.before.before.before.before.before) c.zone_size-size.ensures c.first_list-none.new.work (long c.before.before.before) ∙ c.zone_size-size.ensures)
+    (part_long (departures c.before.before.before.before.before.before) c.zone_size-size.ensures c.first_list-none.new.work
+    (long c.before.before.before) ∙ c.zone_size-size.ensures)
 
 returns-2 : tie.Need-returns
 returns-2 c =

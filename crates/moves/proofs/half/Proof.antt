@@ -21,7 +21,8 @@ minus-requires c κs = rw (read c.before, read_2 c) (more_fits _ _ c.ranges.a c.
 
 told : (c : tie.After-struct_told-1) → to_z w64 (of_z w64 c.minus-more.result.0) ≡ c.args.b -ℤ c.args.a
 told c =
-    rw (c.minus-more.ensures ∙ ap₂ ◌-ℤ◌ (read c.before.before.before.before) (read_2 c.before.before.before)) (to_z-of_z w64 _ (more_fits _ _ c.ranges.a c.ranges.b))
+    rw (c.minus-more.ensures ∙ ap₂ ◌-ℤ◌ (read c.before.before.before.before) (read_2 c.before.before.before))
+    (to_z-of_z w64 _ (more_fits _ _ c.ranges.a c.ranges.b))
 
 div-t6 : tie.Need-nonzero_div-result
 div-t6 c = (omega arith, rw (told c) (half_fits _ _ c.ranges.a c.ranges.b))

@@ -39,7 +39,8 @@ after_entries c = omega (arith, after_head c.before.before.before.before)
 
 -- all parts written
 written : (c : tie.After-patterns-after_patterns) →
-    Inks (bits c.before.before.before.before.before.before.before.before.before.before.before) first_pen c.args.out.now c.patterns-after_patterns.result c.patterns-after_patterns.new.out
+    Inks (bits c.before.before.before.before.before.before.before.before.before.before.before) first_pen c.args.out.now
+    c.patterns-after_patterns.result c.patterns-after_patterns.new.out
 unfolding form_bits
 written c =
     rw (← (add-one c.args.n)) (inks_then (inks_then c.head-after_head.ensures c.entries-after_times.ensures) c.patterns-after_patterns.ensures)

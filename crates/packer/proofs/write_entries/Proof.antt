@@ -54,8 +54,10 @@ returns-2 c =
 
 put-case-requires : tie.Need-put_case-requires
 unfolding packed_as
-put-case-requires c κs =
-    (sound _ _ c.requires.0 c.requires.1 (clean c.before.before.before.before), rw (← (case_bits_lem c.args.form _ c.requires.0)) (omega (arith, needed c.before.before)))
+put-case-requires c κs = (
+  sound _ _ c.requires.0 c.requires.1 (clean c.before.before.before.before),
+  rw (← (case_bits_lem c.args.form _ c.requires.0)) (omega (arith, needed c.before.before)),
+)
 
 returns-3 : tie.Need-returns
 unfolding write_fault room_for told output_after packed_as

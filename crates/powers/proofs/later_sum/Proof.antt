@@ -63,7 +63,8 @@ later_is c e =
 returns-2 : tie.Need-returns-then-is_time-latest
 returns-2 c =
     let z = c.args.first +ℤ c.args.second in
-    rw (back c.before.before, to_z-of_z w32 z (sum_fits c.before.before), time_stored z (omega (arith, small c.before.before, abs_ud z))) (later_is c.before c.if-is_time-latest.true)
+    rw (back c.before.before, to_z-of_z w32 z (sum_fits c.before.before), time_stored z (omega (arith, small c.before.before, abs_ud z)))
+    (later_is c.before c.if-is_time-latest.true)
 
 returns-3 : tie.Need-returns
 returns-3 c =

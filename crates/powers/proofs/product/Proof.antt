@@ -18,7 +18,8 @@ use Rattle.powers.proofs.product.Statement.{statement}
 use Rattle.powers.proofs.product.Tie as tie
 
 abbrev invariant-loop : tie.invariant-loop-k
-invariant-loop times powers₀ n r size from goal i₀ j₀ k₀ powers i j k = Making n goal (network.product n (times_in times) (table_at n powers₀ r)) powers₀ powers i j k
+invariant-loop times powers₀ n r size from goal i₀ j₀ k₀ powers i j k =
+    Making n goal (network.product n (times_in times) (table_at n powers₀ r)) powers₀ powers i j k
 
 abbrev decreases-loop : tie.decreases-loop-k
 decreases-loop times powers₀ n r size from goal i₀ j₀ k₀ powers i j k = table_size n - k
@@ -50,7 +51,8 @@ loop-again c =
     let m = l.invariant in
     let back = to_z-of_z w32 c.entry-e.result (record { sfits = c.entry-e.type_inv }) in
     let entry_is = rw (source c.before.before.before) at c.entry-e.ensures in
-    let put = making_more m c.loop-k-test.true (omega (arith, room c.before.before.before.before.before)) (length_product c.args.n _ _) _ (ap time_in back ∙ entry_is) in
+    let put = making_more m c.loop-k-test.true (omega (arith, room c.before.before.before.before.before)) (length_product c.args.n _ _) _
+    (ap time_in back ∙ entry_is) in
     ⊎_elim
     (λ w. put (rw (w.i-is, w.j-is) (omega (arith, m.place, w.if-j-n.true, add-mul l.i 1 c.args.n))) (rw w.j-is (omega (arith, m.column))))
     (λ w. put (rw (w.i-is, w.j-is) (omega (arith, m.place))) (rw w.j-is (omega (arith, m.column, w.if-j-n.false))))

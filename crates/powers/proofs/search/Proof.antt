@@ -45,7 +45,8 @@ returns c =
 loop-again : tie.Need-loop-r-preserved invariant-loop decreases-loop
 loop-again c =
     let found = ap repeat_read (sym c.in_default.is) ∙ c.repeats.ensures in
-    looked_later (ready c.before.before.before.before.before.before.before.before) c.loop-r.invariant (omega arith) c.product.ensures c.product.auto.powers found
+    looked_later (ready c.before.before.before.before.before.before.before.before) c.loop-r.invariant (omega arith) c.product.ensures
+    c.product.auto.powers found
 
 pub search_spec : {M : Type 1} → statement M
 search_spec =

@@ -16,7 +16,8 @@ use Rattle.report.proofs.put_lines.Statement.{statement}
 use Rattle.report.proofs.put_lines.Tie as tie
 
 abbrev invariant-loop : tie.invariant-loop-j
-invariant-loop out₀ at case start count n next₀ j₀ out next j = (j ≤ count) × PutsWithin (line_size * j) out₀ at (lines (parts_of (network case)) case start j) next out
+invariant-loop out₀ at case start count n next₀ j₀ out next j = (j ≤ count)
+    × PutsWithin (line_size * j) out₀ at (lines (parts_of (network case)) case start j) next out
 
 abbrev decreases-loop : tie.decreases-loop-j
 decreases-loop out₀ at case start count n next₀ j₀ out next j = count - j

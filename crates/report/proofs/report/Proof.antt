@@ -64,7 +64,8 @@ returns c =
     let s = c.args.bytes.now in
     let put = puts_then (puts_then c.put_heading-next.ensures.puts c.byte-next.ensures) c.put_lines.ensures.puts in
     let all : Puts c.args.out.now 0 (text s) c.put_lines.result c.put_lines.new.out
-    = rw (← (lines_parts s (zones s) program_space)) at (rw (c.line_count-count.ensures, answer_is c.before.before.before.before.before.before.before.before.before, c.read-read.ensures) at put) in
+    = rw (← (lines_parts s (zones s) program_space))
+    at (rw (c.line_count-count.ensures, answer_is c.before.before.before.before.before.before.before.before.before, c.read-read.ensures) at put) in
     record { puts = all; within = omega (arith, few_lines c.before.before) }
 
 pub report_spec : {M : Type 1} → statement M

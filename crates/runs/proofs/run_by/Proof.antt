@@ -77,7 +77,11 @@ next-times-requires : tie.Need-next_times-next-requires invariant-loop decreases
 next-times-requires c κs =
     let one = table_small _ c.args.factor _ (table c.before.before.before.before).times_small c.requires in
     let small = cycles_small _ _ (time_limit * most_parts) one c.loop.counter (map_every (λ x. x.0) (limits c.before.before.before.before).starts_small) in
-    record { limits = table c.before.before.before.before; few_parts = c.requires; times_small = rw (reached c.before) (λ j. omega (arith, small j, limits c.before.before.before.before)) }
+    record {
+      limits = table c.before.before.before.before;
+      few_parts = c.requires;
+      times_small = rw (reached c.before) (λ j. omega (arith, small j, limits c.before.before.before.before));
+    }
 
 loop-again : tie.Need-loop-preserved invariant-loop decreases-loop
 unfolding cycles
@@ -93,7 +97,8 @@ returns-2 c =
     let f = c.run_fault-judged in
     let e = c.in_default.is in
     let k : c.loop.counter ≡ c.args.cycle.0 = omega arith in
-    ap₂ (λ (j : Judged) (ts : List Seconds). record { judged = j; times = ts }) e (rw k at (held c.before)) ∙ sym (run_accepted _ _ _ _ (accepted _ f.ensures e))
+    ap₂ (λ (j : Judged) (ts : List Seconds). record { judged = j; times = ts }) e (rw k at (held c.before))
+    ∙ sym (run_accepted _ _ _ _ (accepted _ f.ensures e))
 
 pub run_by_spec : {M : Type 1} → statement M
 run_by_spec =

@@ -84,7 +84,8 @@ went_on : (c : tie.Else-next invariant-loop decreases-loop) →
     Onward i.0 i.1 (some_zone c.before.before.before.before.before.before) c.loop-k-test.true c.one_cycle-next.new.work c.one_cycle-next.result
 went_on c =
     let i = c.loop-k.invariant in
-    onward i.0 i.1 (some_zone c.before.before.before.before.before.before) c.loop-k-test.true (said c.before.before.before) c.if-next.false c.one_cycle-next.auto.work
+    onward i.0 i.1 (some_zone c.before.before.before.before.before.before) c.loop-k-test.true (said c.before.before.before) c.if-next.false
+    c.one_cycle-next.auto.work
 
 returns : tie.Need-returns-then-next invariant-loop decreases-loop
 returns c =
@@ -93,20 +94,25 @@ returns c =
 
 find-move-requires : tie.Need-find_move-found-requires invariant-loop decreases-loop
 find-move-requires c κs =
-    let i = c.loop-k.invariant in
-    (rw i.2 (both_lists i.0 i.1 (some_zone c.before.before.before.before.before.before) c.loop-k-test.true (went_on c)), some_zone c.before.before.before.before.before.before)
+    let i = c.loop-k.invariant in (
+      rw i.2 (both_lists i.0 i.1 (some_zone c.before.before.before.before.before.before) c.loop-k-test.true (went_on c)),
+      some_zone c.before.before.before.before.before.before,
+    )
 
 move-on-requires : tie.Need-move_on-requires invariant-loop decreases-loop
 move-on-requires c κs =
     let l = c.loop-k in
     let found = c.find_move-found.ensures in
-    rw (add-one l.k, l.invariant.2) (moving_on l.invariant.0 l.invariant.1 (some_zone c.before.before.before.before.before.before.before.before.before.before) c.loop-k-test.true (went_on c.before.before.before.before) _
+    rw (add-one l.k, l.invariant.2) (moving_on l.invariant.0 l.invariant.1
+    (some_zone c.before.before.before.before.before.before.before.before.before.before) c.loop-k-test.true (went_on c.before.before.before.before) _
     (rw l.invariant.2 at (found.is c.if-found.true)) found.small)
 
 returns-2 : tie.Need-returns-then-found invariant-loop decreases-loop
 returns-2 c =
     let l = c.loop-k in
-    let answer = moved_answer l.invariant.0 l.invariant.1 (some_zone c.before.before.before.before.before.before.before.before.before.before.before.before) c.loop-k-test.true (went_on c.before.before.before.before.before.before) _
+    let answer = moved_answer l.invariant.0 l.invariant.1
+    (some_zone c.before.before.before.before.before.before.before.before.before.before.before.before) c.loop-k-test.true
+    (went_on c.before.before.before.before.before.before) _
     (rw l.invariant.2 at (c.find_move-found.ensures.is c.if-found.true)) _ in
     rw (add-one l.k, l.invariant.2) at c.move_on.ensures ∙ ap answered (sym answer)
 

@@ -69,8 +69,12 @@ add-i : tie.Need-overflow_add-i invariant-loop decreases-loop
 add-i c = omega (arith, c.requires.one.taking.few)
 
 loop-again : tie.Need-loop-i-preserved invariant-loop decreases-loop
-loop-again c =
-    (row_taken c.requires.one.taking (around c.before.before.before.before.before.before.before) c.loop-i.invariant.0 (omega arith) (way c.before.before.before) c.relax_row.ensures, omega arith, omega arith)
+loop-again c = (
+  row_taken c.requires.one.taking (around c.before.before.before.before.before.before.before) c.loop-i.invariant.0 (omega arith)
+      (way c.before.before.before) c.relax_row.ensures,
+  omega arith,
+  omega arith,
+)
 
 same_length : tie.Need-shape_of-zone invariant-loop decreases-loop
 same_length c = c.loop-i.invariant.2

@@ -55,7 +55,8 @@ bound-at-requires-2 c κs =
 
 negated-requires : tie.Need-negated-requires invariant-loop decreases-loop
 negated-requires c κs =
-    wide _ (let h = neg_small c.clocked-x.result.0 (near c.before.before.before.before.before) in omega (arith, few c.before.before.before.before.before.before.before.before))
+    wide _ (let h = neg_small c.clocked-x.result.0 (near c.before.before.before.before.before) in
+    omega (arith, few c.before.before.before.before.before.before.before.before))
 
 near_negated : (c : tie.After-negated invariant-loop decreases-loop) →
     nat_abs c.negated.result.0 ≤ c.args.t * Largest

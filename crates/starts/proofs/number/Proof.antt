@@ -24,11 +24,14 @@ add-t3 : tie.Need-overflow_add-result
 add-t3 c = rw (told c.before.before.before.before, bit_told c.before.before.before.before) (sum_fits _ c.requires)
 
 div-t4 : tie.Need-nonzero_div-result
-div-t4 c = (omega arith, rw (told c.before.before.before.before, bit_told c.before.before.before.before, sum_told c.before.before.before.before) (number_fits _ c.requires))
+div-t4 c =
+    let k = c.before.before.before.before in
+    (omega arith, rw (told k, bit_told k, sum_told k) (number_fits _ c.requires))
 
 returns : tie.Need-returns
 returns c =
-    rw (told c.before.before.before.before, bit_told c.before.before.before.before, sum_told c.before.before.before.before, to_z-of_z w64 _ (number_fits _ c.requires)) (number_is c.args.halves.0)
+    let k = c.before.before.before.before in
+    rw (told k, bit_told k, sum_told k, to_z-of_z w64 _ (number_fits _ c.requires)) (number_is c.args.halves.0)
 
 pub number_spec : {M : Type 1} → statement M
 number_spec = tie.close (tie.spec add-t3 div-t4 returns)

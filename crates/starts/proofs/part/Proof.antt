@@ -33,7 +33,8 @@ mul-t5 c = rw (told c.before.before, many c.before.before) (product c.before.bef
 
 sub-t7 : tie.Need-overflow_sub-result
 sub-t7 c =
-    rw (told c.before.before.before.before, many c.before.before.before.before, bit_told c.before.before.before.before, to_z-of_z w64 _ (product c.before.before.before.before)) (part_fits _ _ c.number-number.ensures c.requires.0 c.requires.1)
+    let k = c.before.before.before.before in
+    rw (told k, many k, bit_told k, to_z-of_z w64 _ (product k)) (part_fits _ _ c.number-number.ensures c.requires.0 c.requires.1)
 
 returns : tie.Need-returns
 returns c =

@@ -34,15 +34,24 @@ pattern-size-requires c κs = (few c.before).few
 
 times-in-requires : tie.Need-times_in-times-requires
 times-in-requires c κs =
-    rw c.table_size-count.ensures (omega (arith, table_fits (few c.before.before.before.before.before)), times_in_limit c.args.case (sound c.before.before.before.before.before))
+    rw c.table_size-count.ensures (
+      omega (arith, table_fits (few c.before.before.before.before.before)),
+      times_in_limit c.args.case (sound c.before.before.before.before.before),
+    )
 
 bounds-in-requires : tie.Need-bounds_in-start-requires
 bounds-in-requires c κs =
-    rw c.pattern_size-size.ensures (pattern_fits (few c.before.before.before.before.before.before), start_in_limit c.args.case (sound c.before.before.before.before.before.before))
+    rw c.pattern_size-size.ensures (
+      pattern_fits (few c.before.before.before.before.before.before),
+      start_in_limit c.args.case (sound c.before.before.before.before.before.before),
+    )
 
 bounds-in-requires-2 : tie.Need-bounds_in-target-requires
 bounds-in-requires-2 c κs =
-    rw c.pattern_size-size.ensures (pattern_fits (few c.before.before.before.before.before.before.before), target_in_limit c.args.case (sound c.before.before.before.before.before.before.before))
+    rw c.pattern_size-size.ensures (
+      pattern_fits (few c.before.before.before.before.before.before.before),
+      target_in_limit c.args.case (sound c.before.before.before.before.before.before.before),
+    )
 
 -- the case in memory
 in_memory : (c : tie.After-bounds_in-target) →
@@ -64,14 +73,16 @@ slice-aggregate-times c = sym (length-take-le _ _ (array-share-prefix-times c.be
 
 array-share-prefix-start : tie.Need-slice_bounds-start-end
 array-share-prefix-start c =
-    pattern_room (few c.before.before.before.before.before.before.before.before.before) c.bounds_in-start.result c.bounds_in-start.ensures.1 c.pattern_size-size.ensures
+    pattern_room (few c.before.before.before.before.before.before.before.before.before) c.bounds_in-start.result c.bounds_in-start.ensures.1
+    c.pattern_size-size.ensures
 
 slice-aggregate-start : tie.Need-slice_bounds-start-end-2
 slice-aggregate-start c = sym (length-take-le _ _ (array-share-prefix-start c.before))
 
 array-share-prefix-target : tie.Need-slice_bounds-target-end
 array-share-prefix-target c =
-    pattern_room (few c.before.before.before.before.before.before.before.before.before.before) c.bounds_in-target.result c.bounds_in-target.ensures.1 c.pattern_size-size.ensures
+    pattern_room (few c.before.before.before.before.before.before.before.before.before.before) c.bounds_in-target.result
+    c.bounds_in-target.ensures.1 c.pattern_size-size.ensures
 
 slice-aggregate-target : tie.Need-slice_bounds-target-end-2
 slice-aggregate-target c = sym (length-take-le _ _ (array-share-prefix-target c.before))
@@ -91,7 +102,8 @@ first-repeat-requires c κs =
 repeated_is : (c : tie.After-first_repeat-repeated) →
     repeat_read c.first_repeat-repeated.result ≡ repeat_of (network c.args.case)
 repeated_is c =
-    (rw c.table_size-count.ensures at c.first_repeat-repeated.ensures) ∙ repeat_is c.args.case c.args.capacity _ c.requires (in_memory c.before.before.before.before.before)
+    (rw c.table_size-count.ensures at c.first_repeat-repeated.ensures)
+    ∙ repeat_is c.args.case c.args.capacity _ c.requires (in_memory c.before.before.before.before.before)
 
 plan-of-requires : tie.Need-plan_of-plan-requires
 unfolding network
@@ -104,14 +116,16 @@ plan_made : (c : tie.After-plan_of-plan) →
     Planned (plan (network c.args.case)) c.plan_of-plan.result
 plan_made c =
     let free = rw c.pattern_size-size.ensures at c.differences-free.ensures in
-    planned c.args.case c.args.capacity _ c.requires (in_memory c.before.before.before.before.before.before.before) c.first_repeat-repeated.result _ (repeated_is c.before.before) free c.plan_of-plan.ensures
+    planned c.args.case c.args.capacity _ c.requires (in_memory c.before.before.before.before.before.before.before)
+    c.first_repeat-repeated.result _ (repeated_is c.before.before) free c.plan_of-plan.ensures
 
 search-requires : tie.Need-search-answer-requires
 unfolding network
 search-requires c κs =
     let w = c.args.case in
     rw (c.table_size-count.ensures, c.pattern_size-size.ensures)
-    (searchable w c.args.capacity _ c.requires (in_memory c.before.before.before.before.before.before.before.before.before.before) c.parts-parts.ensures (omega (arith, (plan_made c.before.before.before).cycles, plan_within (network w))))
+    (searchable w c.args.capacity _ c.requires (in_memory c.before.before.before.before.before.before.before.before.before.before)
+    c.parts-parts.ensures (omega (arith, (plan_made c.before.before.before).cycles, plan_within (network w))))
 
 clear-requires : tie.Need-clear-requires
 clear-requires c κs = search rules
@@ -121,7 +135,9 @@ same_length c = search rules
 
 returns : tie.Need-returns
 returns c = (
-  found c.args.case c.args.capacity _ c.requires (in_memory c.before.before.before.before.before.before.before.before.before.before.before.before.before.before.before) (plan_made c.before.before.before.before.before.before.before.before)
+  found c.args.case c.args.capacity _ c.requires
+      (in_memory c.before.before.before.before.before.before.before.before.before.before.before.before.before.before.before)
+      (plan_made c.before.before.before.before.before.before.before.before)
       (rw (c.table_size-count.ensures, c.pattern_size-size.ensures) at c.search-answer.ensures),
   c.clear.ensures ∙ ap (λ (n : ℕ). replicate n (pos 0)) c.search-answer.auto.work,
 )

@@ -71,14 +71,16 @@ take-in-requires c κs =
 
 returns : tie.Need-returns-then-not-take_in invariant-loop decreases-loop
 returns c =
-    given_up (next c.before.before.before.before.before.before) c.loop-j.invariant.0 (rw (limit c.before.before.before.before) at c.take_in.ensures) c.if-not-take_in.true-raw
+    given_up (next c.before.before.before.before.before.before) c.loop-j.invariant.0
+    (rw (limit c.before.before.before.before) at c.take_in.ensures) c.if-not-take_in.true-raw
 
 add-j : tie.Need-overflow_add-j invariant-loop decreases-loop
 add-j c = omega (arith, c.requires.adds.table.departures.few)
 
 loop-again : tie.Need-loop-j-preserved invariant-loop decreases-loop
 loop-again c = (
-  onward (next c.before.before.before.before.before.before) c.loop-j.invariant.0 (rw (limit c.before.before.before.before) at c.take_in.ensures) c.if-not-take_in.false-raw,
+  onward (next c.before.before.before.before.before.before) c.loop-j.invariant.0
+      (rw (limit c.before.before.before.before) at c.take_in.ensures) c.if-not-take_in.false-raw,
   omega arith,
   omega arith,
   omega arith,

@@ -109,8 +109,13 @@ add-i : tie.Need-overflow_add-i invariant-loop decreases-loop
 add-i c = omega (arith, (start c.before.before.before.before.before.before.before).requires.taking.few)
 
 loop-again : tie.Need-loop-i-preserved invariant-loop decreases-loop
-loop-again c =
-    (row_taken (start c.before.before.before.before.before.before.before).requires.taking (not_around c.before.before.before.before.before.before.before) c.loop-i.invariant.0 (omega arith) (way c.before.before.before.before) c.relax_row.ensures, omega arith, omega arith)
+loop-again c = (
+  row_taken (start c.before.before.before.before.before.before.before).requires.taking
+      (not_around c.before.before.before.before.before.before.before) c.loop-i.invariant.0 (omega arith) (way c.before.before.before.before)
+      c.relax_row.ensures,
+  omega arith,
+  omega arith,
+)
 
 same-length-2 : tie.Need-shape_of-zone invariant-loop decreases-loop
 same-length-2 c = c.loop-i.invariant.2

@@ -60,7 +60,11 @@ sum_is : (c : tie.After-narrow_sum-sum) → let s = c.args in
     of_halves c.narrow_sum-sum.result ≡ plus (of_halves s.way.0) (bound_in s.rest)
 sum_is c =
     rw (bound c.before.before.before.before)
-    (rw (way_told c.before.before.before, to_z-of_z w32 c.args.way.0 (way_fits c.before.before.before), to_z-of_z w32 c.args.rest c.ranges.rest) at c.narrow_sum-sum.ensures)
+    (rw (
+      way_told c.before.before.before,
+      to_z-of_z w32 c.args.way.0 (way_fits c.before.before.before),
+      to_z-of_z w32 c.args.rest c.ranges.rest,
+    ) at c.narrow_sum-sum.ensures)
 
 cast-t8 : tie.Need-overflow_cast-sum
 cast-t8 c = rw (to_z-of_z w32 _ (sum_fits c)) (widened (sum_fits c))

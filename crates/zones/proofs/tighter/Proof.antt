@@ -31,7 +31,8 @@ cast-result c = rw (told c.before.before.before) (fits_new c.before.before)
 
 returns : tie.Need-returns-then-new-old
 returns c =
-    rw (told c.before.before.before, to_z-of_z w32 c.args.new.0 (fits_new c.before.before)) (new_tighter c.args.old c.args.new.0 c.ranges.old (less c.before.before))
+    rw (told c.before.before.before, to_z-of_z w32 c.args.new.0 (fits_new c.before.before))
+    (new_tighter c.args.old c.args.new.0 c.ranges.old (less c.before.before))
 
 returns-2 : tie.Need-returns
 returns-2 c =

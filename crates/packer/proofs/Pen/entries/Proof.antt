@@ -46,8 +46,11 @@ loop-less c = omega arith
 loop-again : tie.Need-loop-i-preserved invariant-loop decreases-loop
 loop-again c =
     let l = c.loop-i in
-    let a = c.args in
-    (omega arith, rw (entries_next (of_widths a.widths) a.entries l.i (index c.before.before.before.before.before)) (inks_then l.invariant.1 c.entry-pen.ensures))
+    let a = c.args in (
+      omega arith,
+      rw (entries_next (of_widths a.widths) a.entries l.i (index c.before.before.before.before.before))
+          (inks_then l.invariant.1 c.entry-pen.ensures),
+    )
 
 same_length : tie.Need-shape_of-out invariant-loop decreases-loop
 same_length c = c.loop-i.invariant.1.0.kept

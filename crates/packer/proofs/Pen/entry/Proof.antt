@@ -44,7 +44,10 @@ bits-requires-3 c κs = (
 returns-2 : tie.Need-returns
 returns-2 c =
     let a = c.args in
-    rw (entry_present a.widths a.entry (there c.before.before.before.before.before.before.before.before.before.before), ← c.number-number.ensures) (inks_then c.bits-pen.ensures c.bits-2.ensures)
+    rw (
+      entry_present a.widths a.entry (there c.before.before.before.before.before.before.before.before.before.before),
+      ← c.number-number.ensures,
+    ) (inks_then c.bits-pen.ensures c.bits-2.ensures)
 
 pub entry_spec : {M : Type 1} → statement M
 entry_spec =
