@@ -5,14 +5,13 @@ use mathlib.Core.Path.{◌≡◌, refl, sym, ap, ap₂, ◌∙◌}
 use mathlib.Core.Bool.{false, true}
 use mathlib.Core.List.{List}
 use lib.IntN.{ℤ, pos, nat_abs, ◌-ℤ◌}
-use lib.Dec.{eqb}
-use borrow.Author.Tests.{ne_eqb}
 use Rattle.ints.proofs.Integers.{impossible, up, dn, ints, sub_ud, pos_ud, abs_ud}
-use Rattle.model.specs.declared.Slot.{Slot}
+use Rattle.std.proofs.Common.{is_some, Some, None}
+use Rattle.ints.specs.declared.Seconds.{Seconds}
 use Rattle.model.specs.Bound as B
 use Rattle.model.specs.Bound.{Bound, most, plus, tighter}
 use Rattle.model.specs.Network.{Time, blank, secs, time, secs_of}
-use Rattle.model.specs.Faults.{time_of}
+use Rattle.model.specs.Faults.{Entry, time_of}
 use Rattle.model.specs.Search.{tightest}
 use Rattle.model.specs.Conditions.{Column, Small, free, tightest_of}
 use Rattle.model.proofs.Bounds.{tighter_either}
@@ -22,18 +21,22 @@ use Rattle.memory.specs.Conditions.{TimeRead}
 use Rattle.ahead.specs.Needs.{row_time, asks, NeedMost}
 
 module _ (n : ℕ) (a : List Time) where
-  -- the clock's
-  pub clock_read : (j : ℕ) → TimeRead (row_time n a 0 j) (record { has = eqb j 0; value = record { 0 = pos 0 } })
+  -- the clock's, and those of its column
+  pub clock_read : (o j : ℕ) → (1 ≤ o → 1 ≤ j → ⊥) → o ≡ j → TimeRead (row_time n a o j) (Some (record { 0 = pos 0 }))
   unfolding row_time time_of secs_of
-  clock_read zero = record { is = refl; value = refl; small = omega arith }
-  clock_read (suc j) = let e : eqb (suc j) 0 ≡ false = ne_eqb (suc j) 0 (omega arith) in record { is = rw e; value = refl; small = omega arith }
+  clock_read zero zero ne e = record { is = refl; small = omega arith }
+  clock_read zero (suc j) ne e = absurd (omega arith)
+  clock_read (suc o) zero ne e = absurd (omega arith)
+  clock_read (suc o) (suc j) ne e = absurd (ne (omega arith) (omega arith))
+
+  pub blank_read : (o j : ℕ) → (1 ≤ o → 1 ≤ j → ⊥) → (o ≡ j → ⊥) → TimeRead (row_time n a o j) None
+  unfolding row_time time_of secs_of
+  blank_read zero zero ne d = absurd (d refl)
+  blank_read zero (suc j) ne d = record { is = refl; small = omega arith }
+  blank_read (suc o) zero ne d = record { is = refl; small = omega arith }
+  blank_read (suc o) (suc j) ne d = absurd (ne (omega arith) (omega arith))
 
   -- the others'
-  pub blank_read : (o : ℕ) → 1 ≤ o → TimeRead (row_time n a o 0) (record { has = false; value = record { 0 = pos 0 } })
-  unfolding row_time time_of secs_of
-  blank_read zero h = absurd (omega arith)
-  blank_read (suc o) h = record { is = refl; value = refl; small = omega arith }
-
   pub row_time_lem : (o j : ℕ) → 1 ≤ o → 1 ≤ j → row_time n a o j ≡ time n a o j
   unfolding row_time
   row_time_lem zero j h k = absurd (omega arith)
@@ -41,30 +44,40 @@ module _ (n : ℕ) (a : List Time) where
   row_time_lem (suc o) (suc j) h k = refl
 
 -- what a time asks of a bound
-module _ {t : Time} {r : Slot} (read : TimeRead t r) (b : Bound) where
-  pub asks_none : r.has ≡ false → B.Bound.none ≡ asks b t
+module _ {t : Time} {r : Entry Seconds} (read : TimeRead t r) where
+  pub asks_none : (b : Bound) → r ≡ None → B.Bound.none ≡ asks b t
   unfolding asks time_of
-  asks_none e = rw (← read.is, e)
+  asks_none b e = rw (← read.is, e)
 
-  pub asks_some : r.has ≡ true → plus b (most (pos 0 -ℤ r.value.0)) ≡ asks b t
-  unfolding asks time_of
-  asks_some e = rw (← read.is, e)
+  module _ {x : Seconds} (e : r ≡ Some x) where
+    pub asks_some : (b : Bound) → plus b (most (pos 0 -ℤ x.0)) ≡ asks b t
+    unfolding asks time_of
+    asks_some b = rw (← read.is, e)
+
+    -- a time in memory, taken off
+    pub taken_off : nat_abs (pos 0 -ℤ x.0) ≤ InMemory
+    unfolding time_of secs_of
+    taken_off =
+        let h : nat_abs x.0 ≤ InMemory = rw (← read.is, e) at read.small in
+        omega (ints, abs_ud x.0, abs_ud (pos 0 -ℤ x.0), sub_ud (pos 0) x.0, pos_ud 0)
 
 -- a column holds a time exactly if there is one
-module _ {n : ℕ} {a : List Time} {i j : ℕ} {r : Slot} (read : TimeRead (time n a i j) r) where
-  pub no_column : r.has ≡ false → Column n a i j → ⊥
+module _ {n : ℕ} {a : List Time} {i j : ℕ} {r : Entry Seconds} (read : TimeRead (time n a i j) r) where
+  pub no_column : is_some r ≡ false → Column n a i j → ⊥
   unfolding time_of
-  no_column e c = let is : blank ≡ secs c.value = rw e at read.is ∙ c.is in impossible cc
+  no_column e c = go r read.is e
+    where
+      go : (r : Entry Seconds) → time_of r ≡ time n a i j → is_some r ≡ false → ⊥
+      go None h e = let is : blank ≡ secs c.value = h ∙ c.is in impossible cc
+      go (Some x) h e = impossible cc
 
-  pub held_column : r.has ≡ true → 1 ≤ j → j ≤ n → Column n a i j
+  pub held_column : is_some r ≡ true → 1 ≤ j → j ≤ n → Column n a i j
   unfolding time_of
-  held_column e l u = record { from_one = l; to_n = u; value = r.value.0; is = sym (rw e at read.is) }
-
--- a time in memory, taken off
-pub taken_off : {t : Time} {r : Slot} → TimeRead t r → nat_abs (pos 0 -ℤ r.value.0) ≤ InMemory
-unfolding up dn
-taken_off {r = r} read = let h : nat_abs r.value.0 ≤ InMemory = rw read.value read.small in
-    omega (ints, abs_ud r.value.0, abs_ud (pos 0 -ℤ r.value.0), sub_ud (pos 0) r.value.0, pos_ud 0)
+  held_column e l u = go r read.is e
+    where
+      go : (r : Entry Seconds) → time_of r ≡ time n a i j → is_some r ≡ true → Column n a i j
+      go None h e = impossible cc
+      go (Some x) h e = record { from_one = l; to_n = u; value = x.0; is = sym h }
 
 pub less_nothing : (v : ℤ) → v -ℤ pos 0 ≡ v
 unfolding up dn

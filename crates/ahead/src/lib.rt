@@ -10,30 +10,23 @@ ghost use Rattle.memory.specs.Numbers.{times_in};
 ghost use Rattle.memory.specs.Numbers as Memory;
 ghost use Rattle.memory.specs.Conditions.{TableIn, ZoneIn, ReadWithin, TimeRead, TimeCell};
 ghost use Rattle.memory.specs.Matrices.{RowFilled};
-ghost use Rattle.starts.specs.Numbers.{bounds_in};
+ghost use Rattle.memory.specs.Wide.{bounds_in};
 ghost use Rattle.ahead.specs.Needs.{row_time, asks, need, needs, NeedMost, Unfit, UnfitBefore, NoneFits, UnfitFrom, Barred};
 ghost use Rattle.ahead.specs.Outlook.{Tabling, Looking, LookingAt, KnownRows};
 
-use ints::ZERO;
-use memory::{Number, bound_at, time_at};
-use model::{NOTHING, Slot};
+use ints::{Seconds, ZERO};
+use memory::{BLANK, Number, bound_at, put, time_at};
 use zones::Choice;
 
 // A(o, j); the clock, as row 0, has the time 0 in column 0, and no other.
-fn row_time(times: &[i32], n: usize, o: usize, j: usize) -> Slot
+fn row_time(times: &[i32], n: usize, o: usize, j: usize) -> Option<Seconds>
     requires { TableIn n times.now × (o ≤ n) × (j ≤ n) }
     ensures { TimeRead (row_time n (times_in times.now) o j) result }
 {
-    if o == 0 {
-        return Slot {
-            has: j == 0,
-            value: ZERO,
-        };
+    if 0 < o && 0 < j {
+        return time_at(times, n, o, j);
     }
-    if j == 0 {
-        return NOTHING;
-    }
-    time_at(times, n, o, j)
+    if o == j { Some(ZERO) } else { None }
 }
 
 // What row o asks of x(j) less the image in row r.
@@ -41,12 +34,10 @@ fn asked(times: &[i32], zone: &[i32], n: usize, o: usize, r: usize, j: usize) ->
     requires { Tabling n times.now zone.now r × (o ≤ n) × (j ≤ n) }
     ensures { ReadWithin NeedMost (asks (entry (suc n) (Memory.bounds_in zone.now) o r) (row_time n (times_in times.now) o j)) result }
 {
-    let time = row_time(times, n, o, j);
-    if !time.has {
-        return Number::Blank;
-    }
-    let near = bound_at(zone, n, o, r);
-    near.plus(Number::difference(ZERO, time.value))
+    let Some(time) = row_time(times, n, o, j) else {
+        return BLANK;
+    };
+    bound_at(zone, n, o, r) + Number::difference(ZERO, time)
 }
 
 // The tightest that a row asks of it.
@@ -54,10 +45,8 @@ fn need(times: &[i32], zone: &[i32], n: usize, r: usize, j: usize) -> Number
     requires { Tabling n times.now zone.now r × (j ≤ n) }
     ensures { ReadWithin NeedMost (need n (times_in times.now) (Memory.bounds_in zone.now) r j) result }
 {
-    let mut least = Number::Blank;
-    let mut o = n + 1;
-    while 0 < o {
-        o -= 1;
+    let mut least = BLANK;
+    for o in (0..n + 1).rev() {
         least = asked(times, zone, n, o, r, j).tighter(least);
     }
     least
@@ -69,11 +58,8 @@ fn need_row(table: &mut [i64], times: &[i32], zone: &[i32], n: usize, r: usize)
     ensures { RowFilled n (bounds_in table.old) (bounds_in table.new)
         (need n (times_in times.now) (Memory.bounds_in zone.now) r) r (suc n) }
 {
-    let mut j = 0;
-    while j <= n {
-        let least = need(times, zone, n, r, j);
-        starts::put(table, n, r, j, least);
-        j += 1;
+    for j in 0..n + 1 {
+        put(table, n, r, j, need(times, zone, n, r, j));
     }
 }
 
@@ -82,10 +68,8 @@ pub fn needs(table: &mut [i64], times: &[i32], zone: &[i32], n: usize)
     requires { TableIn n times.now × ZoneIn n zone.now × ZoneIn n table.old }
     ensures { bounds_in table.new ≡ needs n (times_in times.now) (Memory.bounds_in zone.now) }
 {
-    let mut r = 0;
-    while r <= n {
+    for r in 0..n + 1 {
         need_row(table, times, zone, n, r);
-        r += 1;
     }
 }
 
@@ -96,13 +80,11 @@ pub fn unfit(part: &[i32], table: &[i64], times: &[i32], n: usize, c: Choice) ->
 {
     let added = zones::chosen(times, n, c.row, c.column);
     let own = Number::difference(added, ZERO);
-    let mut j = 0;
-    while j <= n {
-        let needed = starts::bound_at(table, n, c.row, j).plus(own);
-        if bound_at(part, n, c.column, j).plus(needed).negative() {
+    for j in 0..n + 1 {
+        let needed = bound_at(table, n, c.row, j) + own;
+        if (bound_at(part, n, c.column, j) + needed).negative() {
             return true;
         }
-        j += 1;
     }
     false
 }
@@ -119,14 +101,14 @@ fn known_unfit(
     requires { Looking n part.now table.now times.now × KnownRows n times.now cols.now i }
     ensures { result ≡ true → UnfitBefore n (times_in times.now) (bounds_in table.now) (Memory.bounds_in part.now) cols.now i }
 {
-    let mut l = 0;
-    while l < i {
-        let t = cols[l];
-        let known = Choice { row: l, column: t };
+    for l in 0..i {
+        let known = Choice {
+            row: l,
+            column: cols[l],
+        };
         if unfit(part, table, times, n, known) {
             return true;
         }
-        l += 1;
     }
     false
 }
@@ -137,10 +119,7 @@ fn column_out(part: &[i32], table: &[i64], times: &[i32], n: usize, c: Choice) -
     ensures { result ≡ true → Column n (times_in times.now) c.row c.column
         → Unfit n (times_in times.now) (bounds_in table.now) (Memory.bounds_in part.now) c }
 {
-    if !time_at(times, n, c.row, c.column).has {
-        return true;
-    }
-    unfit(part, table, times, n, c)
+    time_at(times, n, c.row, c.column).is_none() || unfit(part, table, times, n, c)
 }
 
 // So it is of every column of row r.
@@ -148,14 +127,12 @@ fn row_out(part: &[i32], table: &[i64], times: &[i32], n: usize, r: usize) -> bo
     requires { Looking n part.now table.now times.now × (1 ≤ r) × (r ≤ n) }
     ensures { result ≡ true → NoneFits n (times_in times.now) (bounds_in table.now) (Memory.bounds_in part.now) r }
 {
-    let mut s = 1;
-    while s <= n {
+    for s in 1..n + 1 {
         let c = Choice { row: r, column: s };
         let out = column_out(part, table, times, n, c);
         if !out {
             return false;
         }
-        s += 1;
     }
     true
 }
@@ -165,12 +142,10 @@ fn later_out(part: &[i32], table: &[i64], times: &[i32], n: usize, i: usize) -> 
     requires { Looking n part.now table.now times.now × (1 ≤ i) }
     ensures { result ≡ true → UnfitFrom n (times_in times.now) (bounds_in table.now) (Memory.bounds_in part.now) i }
 {
-    let mut r = i;
-    while r <= n {
+    for r in i..n + 1 {
         if row_out(part, table, times, n, r) {
             return true;
         }
-        r += 1;
     }
     false
 }
@@ -180,8 +155,5 @@ pub fn shut(part: &[i32], table: &[i64], times: &[i32], cols: &[usize], n: usize
     requires { Looking n part.now table.now times.now × KnownRows n times.now cols.now i }
     ensures { result ≡ true → Barred n (times_in times.now) (bounds_in table.now) (Memory.bounds_in part.now) cols.now i }
 {
-    if known_unfit(part, table, times, cols, n, i) {
-        return true;
-    }
-    later_out(part, table, times, n, i)
+    known_unfit(part, table, times, cols, n, i) || later_out(part, table, times, n, i)
 }

@@ -1,2 +1,2 @@
--- How the private answer says what is lost.
+-- How bounds are looked at for what is lost.
 pub mod Looking

@@ -2,5 +2,4 @@
 mod Alone
 mod Cycling
 mod Zoned
-mod Prepared
 mod Loaded

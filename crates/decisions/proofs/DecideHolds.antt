@@ -10,13 +10,15 @@ use lib.ListN.{take}
 use Rattle.ints.proofs.Integers.{impossible}
 use Rattle.model.specs.declared.Case.{Case}
 use Rattle.model.specs.declared.Fault.{Fault}
+use Rattle.std.specs.Prelude.{Result, Ok, Err}
 use Rattle.model.specs.declared.Verdict.TheVariants as verdict
+use Rattle.model.specs.declared.StartTimes.{StartTimes}
 use Rattle.model.specs.Network.{Network, in_parts}
 use Rattle.model.specs.Search.{Outcome, parts_of}
 use Rattle.model.specs.Faults.{network, outside, case_fault, call_fault}
-use Rattle.model.specs.Answers.{cycle_number, answered, answer}
+use Rattle.model.specs.Answers.{cycle_number, start_of, answered, answer}
 use Rattle.model.specs.Conditions.{Regular, Limits}
-use Rattle.model.specs.Demands.{InLimits, Witness, Met, NotBefore, First, Differences, Repeated}
+use Rattle.model.specs.Demands.{InLimits, Reaches, Witness, Met, NotBefore, First, Differences, Repeated}
 use Rattle.model.proofs.Searched.{parts_some}
 use Rattle.model.proofs.Limits.{no_fault, case_limits}
 use Rattle.model.proofs.Concluded as concluded
@@ -24,9 +26,8 @@ use Rattle.model.proofs.Concluded.{Concluded, conclusion}
 use Rattle.model.proofs.DemandsHold.{answer_in, answer_refused, first_times, numbers, demand2, demand3}
 use Rattle.decisions.specs.declared.Finding.{Finding}
 use Rattle.decisions.specs.declared.Finding.TheVariants as finding
-use Rattle.decisions.specs.declared.Decided.{Decided}
-use Rattle.decisions.specs.Decide.{most_far, Decision, reached, undecided, decide_marked, decide_fault, refused_as, told, decided, numbers_of}
-use Rattle.decisions.specs.Deciding.{Accepted, Decisive, FirstTo, Demand1, Demand2, Demand3, Agrees, Decides, DecideGiven}
+use Rattle.decisions.specs.Decide.{most_far, Decision, undecided, decide_marked, decide_fault, told, decided, finding_numbers}
+use Rattle.decisions.specs.Deciding.{Accepted, Decisive, Settles, Finds, FirstTo, Demand1, Demand2, Demand3, Agrees, Decides, DecideGiven}
 use Rattle.decisions.proofs.Whole.{Enough}
 use Rattle.decisions.proofs.Meant.{Meant, reached_at, clear_at, never_at, undecided_at, meant, enough_marked, never_marked}
 
@@ -36,7 +37,7 @@ module _ (c : Case) (horizon : ℕ) where
   unfolding decided
   decided_in e steps = rw (e, decided)
 
-  pub decided_refused : (f : Fault) → decide_fault c horizon ≡ some f → (steps : ℕ) → decided c horizon steps ≡ refused_as f
+  pub decided_refused : (f : Fault) → decide_fault c horizon ≡ some f → (steps : ℕ) → decided c horizon steps ≡ Err f
   unfolding decided
   decided_refused f e steps = rw (e, decided)
 
@@ -50,70 +51,71 @@ module _ (c : Case) (horizon : ℕ) where
   accepted_case h = let facts = simp no_fault at h in facts.0
 
 -- ---- what a decision on a network says, as an answer
-abbrev value_of : Finding → ℕ
-value_of f = (numbers_of f).value
+abbrev value_of : Result Finding Fault → ℕ
+value_of (Ok f) = (finding_numbers f).value
+value_of (Err f) = 0
 
-abbrev said : Network → Decision → Finding
-said w o = (told (parts_of w) o).finding
+abbrev said : Network → Decision → Result Finding Fault
+said w o = told (parts_of w) o
 
 module _ {w : Network} {horizon : ℕ} where
-  not_refused : {o : Decision} → Meant w horizon o → (f : Fault) → ¬ (said w o ≡ finding.Refused f)
+  not_refused : {o : Decision} → Meant w horizon o → (f : Fault) → ¬ (said w o ≡ Err f)
   not_refused (reached_at l u before s) f e = impossible cc
   not_refused (clear_at before) f e = impossible cc
   not_refused (never_at nowhere) f e = impossible cc
   not_refused (undecided_at l u before) f e = impossible cc
 
   -- reached: the first cycle met, and the start
-  reached_so : {o : Decision} → Meant w horizon o → (k : ℕ) → said w o ≡ finding.Reached (cycle_number k)
-      → (xs : List ℤ) × (o ≡ reached k xs) × FirstTo w horizon k × Witness (in_parts (parts_of w) w) k xs
-  reached_so (reached_at {k = j} {xs} l u before s) k e =
+  reached_so : {o : Decision} → Meant w horizon o → (k : ℕ) (t : StartTimes) → Settles (verdict.Reached (cycle_number k) t) (said w o)
+      → (xs : List ℤ) × (t ≡ start_of (parts_of w) xs) × FirstTo w horizon k × Witness (in_parts (parts_of w) w) k xs
+  reached_so (reached_at {k = j} {xs} l u before s) k t e =
       let q : j ≡ k = ap value_of e in
       let is : FirstTo w horizon j
       = record { from_one = l; to_horizon = u; not_before = before; met = (parts_of w, parts_some w, xs, s) } in
-      rw (← q) (xs, refl, is, s)
-  reached_so (clear_at before) k e = impossible cc
-  reached_so (never_at nowhere) k e = impossible cc
-  reached_so (undecided_at l u before) k e = impossible cc
+      rw (← q) (xs, cc, is, s)
+  reached_so (clear_at before) k t e = impossible cc
+  reached_so (never_at nowhere) k t e = impossible cc
+  reached_so (undecided_at l u before) k t e = impossible cc
 
-  started : {o : Decision} → Meant w horizon o → (k : ℕ) → said w o ≡ finding.Reached (cycle_number k)
-      → ((told (parts_of w) o).parts ≡ parts_of w)
-      × Witness (in_parts (told (parts_of w) o).parts w) k (map (λ x. x.0) (take w.n (told (parts_of w) o).start))
+  started : {o : Decision} → Meant w horizon o → (k : ℕ) (t : StartTimes) → Settles (verdict.Reached (cycle_number k) t) (said w o)
+      → (t.parts ≡ parts_of w) × Witness (in_parts t.parts w) k (map (λ x. x.0) (take w.n t.times))
   unfolding in_parts
-  started m k e =
-      let (xs, is, first, s) = reached_so m k e in
+  started m k t e =
+      let (xs, is, first, s) = reached_so m k t e in
       rw (is, first_times w.n xs s.size, numbers xs) (refl, s)
 
   -- the other way, where the steps are enough
-  reached_at_first : {o : Decision} → Meant w horizon o → Enough o → (k : ℕ) → FirstTo w horizon k → said w o ≡ finding.Reached (cycle_number k)
+  reached_at_first : {o : Decision} → Meant w horizon o → Enough o → (k : ℕ) → FirstTo w horizon k → Finds k (said w o)
   reached_at_first (reached_at {k = j} {xs} l u before s) enough k f =
       let not-less : ¬ (j < k) = λ h. f.not_before j l h (parts_of w, parts_some w, xs, s) in
       let not_more : ¬ (k < j) = λ h. before k f.from_one h f.met in
-      ap (λ (i : ℕ). finding.Reached (cycle_number i)) (omega arith)
+      let start = start_of (parts_of w) xs in
+      (start, ap (λ (i : ℕ). Ok (finding.Settled (verdict.Reached (cycle_number i) start))) (omega arith))
   reached_at_first (clear_at before) enough k f = absurd (before k f.from_one (let h = f.to_horizon in omega arith) f.met)
   reached_at_first (never_at nowhere) enough k f = absurd (nowhere k f.from_one f.met)
   reached_at_first (undecided_at {k = j} l u before) enough k f = absurd (enough j refl)
 
   otherwise : {o : Decision} → Meant w horizon o → Enough o → NotBefore w (suc horizon)
-      → (said w o ≡ finding.Clear (cycle_number horizon)) ⊎ (said w o ≡ finding.Never)
+      → Settles (verdict.Clear (cycle_number horizon)) (said w o) ⊎ Settles verdict.Never (said w o)
   otherwise (reached_at {k} {xs} l u before s) enough unmet = absurd (unmet k l (omega arith) (parts_of w, parts_some w, xs, s))
   otherwise (clear_at before) enough unmet = inl refl
   otherwise (never_at nowhere) enough unmet = inr refl
   otherwise (undecided_at {k = j} l u before) enough unmet = absurd (enough j refl)
 
   -- clear, never and undecided
-  clear_so : {o : Decision} → Meant w horizon o → (k : ℕ) → said w o ≡ finding.Clear (cycle_number k) → (k ≡ horizon) × NotBefore w (suc horizon)
+  clear_so : {o : Decision} → Meant w horizon o → (k : ℕ) → Settles (verdict.Clear (cycle_number k)) (said w o) → (k ≡ horizon) × NotBefore w (suc horizon)
   clear_so (clear_at before) k e = (sym (ap value_of e), before)
   clear_so (reached_at l u before s) k e = impossible cc
   clear_so (never_at nowhere) k e = impossible cc
   clear_so (undecided_at l u before) k e = impossible cc
 
-  never_so : {o : Decision} → Meant w horizon o → said w o ≡ finding.Never → (k : ℕ) → 1 ≤ k → Met w k → ⊥
+  never_so : {o : Decision} → Meant w horizon o → Settles verdict.Never (said w o) → (k : ℕ) → 1 ≤ k → Met w k → ⊥
   never_so (never_at nowhere) e = nowhere
   never_so (reached_at l u before s) e = impossible cc
   never_so (clear_at before) e = impossible cc
   never_so (undecided_at l u before) e = impossible cc
 
-  undecided_so : {o : Decision} → Meant w horizon o → (k : ℕ) → said w o ≡ finding.Undecided (cycle_number k)
+  undecided_so : {o : Decision} → Meant w horizon o → (k : ℕ) → said w o ≡ Ok (finding.Undecided (cycle_number k))
       → (o ≡ undecided k) × (1 ≤ k) × (k ≤ horizon) × NotBefore w k
   undecided_so (undecided_at {k = j} l u before) k e = let q : j ≡ k = ap value_of e in rw (← q) (refl, l, u, before)
   undecided_so (reached_at l u before s) k e = impossible cc
@@ -139,7 +141,7 @@ module _ (c : Case) (horizon steps : ℕ) (ok : Accepted c horizon) where
 
   -- the steps were enough for the decision
   enough_of : Decisive (told (parts_of w) o) → Enough o
-  enough_of decisive k e = decisive k (ap (λ (d : Decision). (told (parts_of w) d).finding) e)
+  enough_of decisive k e = decisive k (ap (told (parts_of w)) e)
 
   decisive_of : Enough o → Decisive (told (parts_of w) o)
   decisive_of enough k e = enough k (undecided_so m k e).0
@@ -147,16 +149,16 @@ module _ (c : Case) (horizon steps : ℕ) (ok : Accepted c horizon) where
   two : Demand2 c horizon (decided c horizon steps)
   unfolding network
   two = rw (decided_in c horizon ok steps) (record {
-    first = λ k e. (reached_so m k e).2;
-    exactly = λ d k. (λ e. (reached_so m k e).2, reached_at_first m (enough_of d) k);
+    first = λ k (t, e). (reached_so m k t e).2;
+    exactly = λ d k. (λ (t, e). (reached_so m k t e).2, reached_at_first m (enough_of d) k);
     start = started m;
     otherwise = λ d. otherwise m (enough_of d);
   })
 
   told_never : (q p : ℕ) (number : ℤ) → Repeated w q p number → Differences w → NotBefore w q → 3 * (q - 1) ≤ horizon
-      → Decisive (told (parts_of w) o) → (told (parts_of w) o).finding ≡ finding.Never
+      → Decisive (told (parts_of w) o) → Settles verdict.Never (told (parts_of w) o)
   told_never q p number s differences before long d =
-      ap (λ (d : Decision). (told (parts_of w) d).finding)
+      ap (told (parts_of w))
       (never_marked w reg horizon s differences limits.table.departures.some before long steps (enough_of d))
 
   three : Demand3 c horizon steps (decided c horizon steps)
@@ -171,15 +173,15 @@ module _ (c : Case) (horizon steps : ℕ) (ok : Accepted c horizon) where
 
 -- ---- beside document 01's verdict
 -- a call that is not refused is in the limits
-in_limits : (c : Case) (capacity size : ℕ) → ((f : Fault) → ¬ ((answer c capacity size).verdict ≡ verdict.Refused f)) → InLimits c capacity size
+in_limits : (c : Case) (capacity size : ℕ) → ((f : Fault) → ¬ (answer c capacity size ≡ Err f)) → InLimits c capacity size
 in_limits c capacity size h = go (call_fault c capacity size) refl
   where
     go : (o : Option Fault) → call_fault c capacity size ≡ o → o ≡ none
     go none e = refl
-    go (some f) e = absurd (h f (ap (λ (r : _). r.verdict) (answer_refused c capacity size f e)))
+    go (some f) e = absurd (h f (answer_refused c capacity size f e))
 
 -- clear: nothing is met up to the case's own horizon
-clear_means : {w : Network} {capacity : ℕ} {a : Outcome} → Concluded w capacity a → (k : ℕ) → (answered a).verdict ≡ verdict.Clear (cycle_number k)
+clear_means : {w : Network} {capacity : ℕ} {a : Outcome} → Concluded w capacity a → (k : ℕ) → answered a ≡ Ok (verdict.Clear (cycle_number k))
     → NotBefore w (suc w.horizon)
 clear_means (concluded.clear_at s u a) k e = u
 clear_means (concluded.reached_at f s a) k e = impossible cc
@@ -188,13 +190,13 @@ clear_means (concluded.never_at h) k e = impossible cc
 
 module _ (c : Case) (horizon steps : ℕ) (ok : Accepted c horizon) where
   -- nothing is met where document 01 says never
-  never_means : (capacity size : ℕ) → (answer c capacity size).verdict ≡ verdict.Never → (k : ℕ) → 1 ≤ k → Met (network c) k → ⊥
+  never_means : (capacity size : ℕ) → answer c capacity size ≡ Ok verdict.Never → (k : ℕ) → 1 ≤ k → Met (network c) k → ⊥
   never_means capacity size e = (demand3 c capacity size (in_limits c capacity size (λ f g. impossible cc))).without_end e
 
-  first_means : (capacity size k : ℕ) → (answer c capacity size).verdict ≡ verdict.Reached (cycle_number k) → First (network c) k
-  first_means capacity size k e = (demand2 c capacity size (in_limits c capacity size (λ f g. impossible cc))).first k e
+  first_means : (capacity size k : ℕ) → Reaches k (answer c capacity size) → First (network c) k
+  first_means capacity size k (s, e) = (demand2 c capacity size (in_limits c capacity size (λ f g. impossible cc))).first k (s, e)
 
-  unmet_means : (capacity size k : ℕ) → (answer c capacity size).verdict ≡ verdict.Clear (cycle_number k) → NotBefore (network c) (suc (network c).horizon)
+  unmet_means : (capacity size k : ℕ) → answer c capacity size ≡ Ok (verdict.Clear (cycle_number k)) → NotBefore (network c) (suc (network c).horizon)
   unmet_means capacity size k e =
       let l = limits c horizon steps ok in
       let inside = in_limits c capacity size (λ f g. impossible cc) in
@@ -234,5 +236,5 @@ module _ (c : Case) (horizon steps : ℕ) where
   decide_given = record { answer = refl; demands = decides }
 
   -- of any answer that is the defined one
-  pub given : {r : Decided} → r ≡ decided c horizon steps → DecideGiven c horizon steps r
+  pub given : {r : Result Finding Fault} → r ≡ decided c horizon steps → DecideGiven c horizon steps r
   given e = record { answer = e; demands = rw e decides }

@@ -1,6 +1,6 @@
 -- The exact answer, beside document 01's: cycle by cycle, whether some start meets the target by one step of that power of the table.
 -- Row by row of the power it tries selections, with one set for each row. It keeps no list of zones, so that none can be full.
-use Rattle.std.specs.Prelude.{ℕ, zero, suc, ◌+◌, ◌*◌, ℤ, pos, ◌-ℤ◌, Bool, ◌&&◌, ◌||◌, cond, get_or, ltb, eqb}
+use Rattle.std.specs.Prelude.{Result, Ok, Err, ℕ, zero, suc, ◌+◌, ◌*◌, ℤ, pos, ◌-ℤ◌, Bool, ◌&&◌, ◌||◌, cond, get_or, ltb, eqb}
 use mathlib.Core.List.{List, [], ◌∷◌, ◌++◌, map, flatten, foldl}
 use Rattle.std.proofs.Math.Option.{Option, none, some}
 use Rattle.model.specs.declared.Case.{Case}
@@ -12,11 +12,12 @@ use Rattle.model.specs.Matrix.{Matrix, Constraint, constrain, tighten}
 use Rattle.model.specs.Pattern.{pattern_constraints, only_differences}
 use Rattle.model.specs.Network.{Time, Network, scale_time, time, product, added, gap, same_time}
 use Rattle.model.specs.Search.{columns, chosen, slack, keeps, pick, parts_of}
-use Rattle.model.specs.Faults.{number, returned, network, outside, case_fault}
-use Rattle.model.specs.Answers.{cycle_number, all_times, Numbers}
+use Rattle.model.specs.Faults.{network, outside, case_fault}
+use Rattle.model.specs.declared.Verdict.TheVariants as verdict
+use Rattle.model.specs.declared.Numbers.{Numbers}
+use Rattle.model.specs.Answers.{cycle_number, start_of, verdict_numbers}
 use Rattle.decisions.specs.declared.Finding.{Finding}
 use Rattle.decisions.specs.declared.Finding.TheVariants as finding
-use Rattle.decisions.specs.declared.Decided.{Decided}
 
 -- the most cycles of a horizon
 abbrev pub most_far : ℕ
@@ -139,31 +140,21 @@ decide_marked w horizon t = decide (wholly (parts_of w) w) horizon t
 unfoldable pub decide_fault : Case → ℕ → Option Fault
 decide_fault c horizon = or_else (case_fault c) (when (outside 1 most_far horizon) fault.Horizon)
 
--- a finding with no start
-abbrev pub plainly : Finding → Decided
-plainly f = record { finding = f; parts = 0; start = all_times [] }
+-- the answer for a decision, whose start is in these parts
+abbrev pub told : ℕ → Decision → Result Finding Fault
+told parts (reached k xs) = Ok (finding.Settled (verdict.Reached (cycle_number k) (start_of parts xs)))
+told parts (clear k) = Ok (finding.Settled (verdict.Clear (cycle_number k)))
+told parts never = Ok (finding.Settled verdict.Never)
+told parts (undecided k) = Ok (finding.Undecided (cycle_number k))
 
-abbrev pub refused_as : Fault → Decided
-refused_as f = plainly (finding.Refused f)
-
-abbrev pub told : ℕ → Decision → Decided
-told parts (reached k xs) = record { finding = finding.Reached (cycle_number k); parts = parts; start = all_times xs }
-told parts (clear k) = plainly (finding.Clear (cycle_number k))
-told parts never = plainly finding.Never
-told parts (undecided k) = plainly (finding.Undecided (cycle_number k))
-
-unfoldable pub decided : Case → ℕ → ℕ → Decided
+unfoldable pub decided : Case → ℕ → ℕ → Result Finding Fault
 decided c horizon steps =
     elim (decide_fault c horizon) [
-      | some f ↦ refused_as f
+      | some f ↦ Err f
       | none ↦ told (parts_of (network c)) (decide_marked (network c) horizon steps)
     ]
 
--- a finding as numbers: which it is, the number of the fault, 0 where there is none, and the number that goes with it: the cycle k, the horizon,
--- 0 for never, what the fault returns
-abbrev pub numbers_of : Finding → Numbers
-numbers_of (finding.Refused f) = record { kind = 0; fault = number f; value = returned f }
-numbers_of (finding.Reached k) = record { kind = 1; fault = 0; value = k.0 }
-numbers_of (finding.Clear k) = record { kind = 2; fault = 0; value = k.0 }
-numbers_of finding.Never = record { kind = 3; fault = 0; value = 0 }
-numbers_of (finding.Undecided k) = record { kind = 5; fault = 0; value = k.0 }
+-- a finding as numbers: those of its verdict, or 5, no fault, and the cycle at which the steps ran out
+abbrev pub finding_numbers : Finding → Numbers
+finding_numbers (finding.Settled v) = verdict_numbers v
+finding_numbers (finding.Undecided k) = record { kind = 5; fault = 0; value = k.0 }

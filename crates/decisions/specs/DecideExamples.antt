@@ -1,7 +1,8 @@
 -- Document 01's networks, decided, and one with strict bounds.
-use Rattle.std.specs.Prelude.{ℕ, pos, negsuc, ◌≡◌, refl}
+use Rattle.std.specs.Prelude.{Result, Err, ℕ, pos, negsuc, ◌≡◌, refl}
 use mathlib.Core.List.{List, [], ◌∷◌}
 use Rattle.model.specs.declared.Case.{Case}
+use Rattle.model.specs.declared.Fault.{Fault}
 use Rattle.model.specs.declared.Fault.TheVariants as fault
 use Rattle.model.specs.Lists as L
 use Rattle.model.specs.Bound as B
@@ -11,22 +12,22 @@ use Rattle.model.specs.Network as N
 use Rattle.model.specs.Search as X
 use Rattle.model.specs.Faults as F
 use Rattle.model.specs.Examples.{any2, free, at_most, d_within, in_0_to_1, d_is_1, d_between, R, S, O, x_is_0, x_is_5}
-use Rattle.decisions.specs.declared.Decided.{Decided}
+use Rattle.decisions.specs.declared.Finding.{Finding}
 use Rattle.decisions.specs.Decide as D
-use Rattle.decisions.specs.Decide.{reached, clear, never, undecided, refused_as, told, decided}
+use Rattle.decisions.specs.Decide.{reached, clear, never, undecided, told, decided}
 
 -- a case, a horizon, a number of steps, and the answer
 pub record Example : Type 0 where
   pub case : Case
   pub horizon : ℕ
   pub steps : ℕ
-  pub says : Decided
+  pub says : Result Finding Fault
 
 abbrev pub AllRight : List Example → Type 0
 AllRight [] = Unit {0}
 AllRight (e ∷ es) = (decided e.case e.horizon e.steps ≡ e.says) × AllRight es
 
-abbrev pub claim : Case → ℕ → ℕ → Decided → Example
+abbrev pub claim : Case → ℕ → ℕ → Result Finding Fault → Example
 claim c h t r = record { case = c; horizon = h; steps = t; says = r }
 
 -- at most one second apart from d ≤ 0, which document 01 reaches at 2; three seconds apart the other way, which is never
@@ -50,7 +51,7 @@ examples =
     ∷ claim (O 4 x_is_0 x_is_5) 4 100 (told 1 (clear 4))
     ∷ claim (R 1 any2 in_0_to_1) 1 100 (told 1 (reached 1 (negsuc 1 ∷ negsuc 4 ∷ [])))
     ∷ claim (S 2 d_between d_between) 2 100 (told 3 (reached 2 (pos 0 ∷ negsuc 0 ∷ [])))
-    ∷ claim near 0 100 (refused_as fault.Horizon)
+    ∷ claim near 0 100 (Err fault.Horizon)
     ∷ []
 
 pub all_right : AllRight examples

@@ -2,13 +2,13 @@
 use Prim.Native.Nat.{ℕ, suc, ◌+◌, ◌*◌, ◌-◌, ◌≤◌}
 use native.Mathlib.Omega.{arith}
 use native.Mathlib.Nat.{mul-le-mul_right, suc-mul}
-use mathlib.Core.Path.{◌≡◌}
+use mathlib.Core.Path.{◌≡◌, sym, ap, ◌∙◌}
 use mathlib.Core.Bool.{Bool}
 use mathlib.Core.List.{List, ◌∷◌, [], ◌++◌}
 use mathlib.Core.Option.{some}
 use lib.IntN.{ℤ}
-use lib.ListN.{length, take}
-use lib.Seq.{paste, length-take-le}
+use lib.ListN.{length, take, drop}
+use lib.Seq.{paste, length-take-le, take-take}
 use borrow.Rule.Slice.PartMut.{put_mid}
 use Rattle.model.specs.Sizes.{zone_size}
 use Rattle.model.specs.Matrix.{Matrix}
@@ -17,7 +17,7 @@ use Rattle.model.specs.Conditions.{Column, Fitting}
 use Rattle.memory.specs.Side.{numbers_at, Elsewhere}
 use Rattle.memory.specs.Matrices.{leaves, Left}
 use Rattle.memory.proofs.Side.{length_numbers, stored_else, stored_numbers, else_trans, back_else, back_at}
-use Rattle.starts.specs.Numbers.{bounds_in}
+use Rattle.memory.specs.Wide.{bounds_in}
 use Rattle.decisions.specs.Decide.{first_constraints}
 use Rattle.decisions.specs.Conditions.{Tryable, more}
 use Rattle.descent.specs.Numbers.{times_in}
@@ -56,6 +56,16 @@ module _ {n : ℕ} {table zone sets : List ℤ} {cols : List ℕ} {i s : ℕ} (b
 
   copied_else : Elsewhere size i sets copied
   copied_else = stored_else size i sets (numbers_at size sets (i - 1)) source_long room_here
+
+  -- as the numbers before base, of which there are enough
+  pub copied_is : (base from : ℕ) → base ≡ i * size → from ≡ base - size → paste sets base (drop from sets) (base - from) ≡ copied
+  copied_is base from e f =
+      let one : i ≡ suc (i - 1) = let h = b.row.from_one in omega arith in
+      let before : i * size ≡ (i - 1) * size + size = ap (λ (k : ℕ). k * size) one ∙ suc-mul (i - 1) size in
+      let start : from ≡ (i - 1) * size = omega arith in
+      let long : base - from ≡ size = omega arith in
+      rw (long, start, e)
+      (ap (λ (l : List ℤ). (take (i * size) sets ++ l) ++ drop (i * size + size) sets) (sym (take-take size size (drop ((i - 1) * size) sets) (omega arith))))
 
   -- it can take in what the column adds
   pub row_ready : RowReady n (numbers_at size copied i) table zone (take i cols) i s

@@ -19,7 +19,7 @@ use Rattle.model.proofs.Patterns.{closed_some}
 use Rattle.model.proofs.Zones.{closed, all_closed}
 use Rattle.memory.proofs.Side.{part_of_lem}
 use Rattle.memory.proofs.Leaving.{left_none, left_some}
-use Rattle.starts.specs.Numbers.{bounds_in}
+use Rattle.memory.specs.Wide.{bounds_in}
 use Rattle.decisions.specs.Decide.{Tried, found, missed, spent, first_of, descend, meeting}
 use Rattle.decisions.specs.Conditions.{columns_from, try_column, Rowed}
 use Rattle.decisions.proofs.FirstColumn.{first_fits}

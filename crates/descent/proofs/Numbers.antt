@@ -1,42 +1,25 @@
 -- A number of 64 bits as a time, and the number that stands for a time in parts.
-use Prim.Native.Nat.{ℕ, suc, ◌+◌, ◌*◌, ◌≤◌, ◌<◌}
+use Prim.Native.Nat.{ℕ, suc, ◌+◌, ◌*◌, ◌≤◌}
 use native.Mathlib.Omega.{arith}
 use native.Mathlib.Nat.{add-mul, mul-le-mul}
-use mathlib.Core.Path.{◌≡◌, refl}
-use mathlib.Core.Bool.{true, false}
-use mathlib.Core.List.{List}
-use lib.Dec.{ltb}
+use mathlib.Core.Path.{◌≡◌, refl, ap, ◌∙◌}
+use mathlib.Core.List.{List, [], ◌∷◌, map}
 use lib.IntN.{ℤ, pos, nat_abs, ◌*ℤ◌}
-use lib.ListN.{length, get_or}
+use lib.ListN.{length, take}
+use lib.Seq.{take-length}
 use mir.Syntax.{w64}
-use mir.Val.{SFits, of_z, to_z}
-use mir.ValLaws.{to_z-of_z}
-use borrow.Author.Tests.{ltb-false, le-ltb}
+use mir.Val.{SFits}
+use borrow.Author.Tests.{le-ltb}
 use Rattle.ints.proofs.Integers.{up, dn, ints, fits, abs_ud}
 use Rattle.model.specs.Sizes.{most_departures}
-use Rattle.model.specs.Network.{blank, secs, secs_of}
-use Rattle.model.specs.Faults.{time_of, nothing, present}
-use Rattle.model.specs.declared.Slot.{Slot}
+use Rattle.model.specs.Network.{Time, secs, scale_time}
 use Rattle.model.proofs.Scale.{mul_ud}
+use Rattle.memory.specs.Numbers as Memory
 use Rattle.memory.specs.Numbers.{InMemory}
-use Rattle.memory.specs.Conditions.{TimeWithin}
-use Rattle.memory.proofs.Places.{get_d_in}
-use Rattle.starts.specs.Numbers.{Largest}
+use Rattle.memory.specs.Wide.{Largest}
 use Rattle.descent.specs.Numbers.{time_in, times_in}
 
 module _ (z : ℤ) where
-  pub read_none : ltb Largest (nat_abs z) ≡ true → TimeWithin Largest (time_in z) nothing
-  unfolding time_in time_of secs_of
-  read_none e = rw e (record { is = refl; value = refl; small = omega arith })
-
-  pub read_some : ltb Largest (nat_abs z) ≡ false → TimeWithin Largest (time_in z) (present z)
-  unfolding time_in time_of secs_of
-  read_some e = rw e (record { is = refl; value = refl; small = ltb-false _ _ e })
-
-  pub stored : nat_abs z ≤ Largest → time_in z ≡ secs z
-  unfolding time_in
-  stored h = rw (le-ltb Largest (nat_abs z) h)
-
   -- in parts
   module _ (parts : ℕ) (small : nat_abs z ≤ InMemory) (few : parts ≤ suc most_departures) where
     product_small : nat_abs (z *ℤ pos parts) ≤ InMemory * suc most_departures
@@ -51,8 +34,15 @@ module _ (z : ℤ) where
     unfolding time_in
     product_stored = rw (le-ltb Largest (nat_abs (z *ℤ pos parts)) (let h = product_small in omega arith))
 
--- what is read at place k
-pub time_there : (z : List ℤ) (k : ℕ) → k < length z → SFits w64 (get_or z k (pos 0)) → {r : Slot}
-    → TimeWithin Largest (time_in (to_z w64 (of_z w64 (get_or z k (pos 0))))) r → TimeWithin Largest (get_or (times_in z) k blank) r
-unfolding times_in
-time_there z k h f q = rw (get_d_in time_in z k (pos 0) blank h, ← to_z-of_z w64 _ f) q
+-- a number of the table, in parts
+abbrev pub part_of : ℕ → ℤ → Time
+part_of parts z = scale_time parts (Memory.time_in z)
+
+fused : (parts : ℕ) (zs : List ℤ) → map (part_of parts) zs ≡ map (scale_time parts) (Memory.times_in zs)
+unfolding Memory.times_in
+fused parts [] = refl
+fused parts (z ∷ zs) = ap (◌∷◌ (part_of parts z)) (fused parts zs)
+
+pub parts_are : (parts : ℕ) (times r : List ℤ) → times_in (take (length times) r) ≡ map (part_of parts) (take (length times) times)
+    → times_in (take (length times) r) ≡ map (scale_time parts) (Memory.times_in times)
+parts_are parts times r e = e ∙ ap (map (part_of parts)) (take-length times) ∙ fused parts times

@@ -9,7 +9,7 @@ use Rattle.model.specs.Conditions.{Column, Cols, Closed}
 use Rattle.memory.specs.Conditions.{ZoneIn, TableIn}
 use Rattle.memory.specs.Matrices.{leaves, Left}
 use Rattle.memory.specs.Side.{numbers_at, Elsewhere}
-use Rattle.starts.specs.Numbers.{bounds_in, Stored}
+use Rattle.memory.specs.Wide.{bounds_in, Stored}
 use Rattle.decisions.specs.Decide.{first_constraints, Tried, found, missed, spent, descend, meeting}
 use Rattle.decisions.specs.Conditions.{try_column, Tryable}
 use Rattle.descent.specs.declared.Ended.{Ended}

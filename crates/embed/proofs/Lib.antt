@@ -1,3 +1,4 @@
 pub mod Arrays
 pub mod ReadBack
 pub mod Changed
+pub mod Handed

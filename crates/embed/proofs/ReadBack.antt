@@ -11,12 +11,11 @@ use Rattle.model.specs.Sizes.{most_departures, most_times, most_bounds}
 use Rattle.model.specs.declared.Case.{Case}
 use Rattle.model.specs.declared.Form.{Form}
 use Rattle.model.specs.declared.Fault.{Fault}
-use Rattle.model.specs.declared.Judged.TheVariants as judged
-use Rattle.model.specs.declared.Written.TheVariants as written
+use Rattle.std.specs.Prelude.{Ok, None}
 use Rattle.model.specs.Lists.{tabulate, padded}
-use Rattle.model.specs.Faults.{nothing, unmarked, outside, table_fault, case_fault}
+use Rattle.model.specs.Faults.{outside, table_fault, case_fault}
 use Rattle.model.specs.Packed.{parse}
-use Rattle.model.specs.Answers.{unpacked}
+use Rattle.model.specs.Answers.{outcome_of}
 use Rattle.model.specs.Writing.{packed_as, tidied, write_fault, told, output_after, Whole}
 use Rattle.model.proofs.Limits.{no_fault}
 use Rattle.model.proofs.Parsed.{Agreed}
@@ -40,9 +39,9 @@ module _ (n h : ℕ) (present strict : List ℕ) (values : List ℤ) where
       let bound = limit_at present strict values in
       let more : suc n ≤ suc most_departures = omega arith in
       record {
-        times = omega (arith, mul-le-mul few few, long nothing (tabulate most_times 0 (slot_at present values)));
-        start = omega (arith, mul-le-mul few more, long (unmarked nothing) (tabulate most_bounds start_place bound));
-        target = omega (arith, mul-le-mul few more, long (unmarked nothing) (tabulate most_bounds target_place bound));
+        times = omega (arith, mul-le-mul few few, long None (tabulate most_times 0 (slot_at present values)));
+        start = omega (arith, mul-le-mul few more, long None (tabulate most_bounds start_place bound));
+        target = omega (arith, mul-le-mul few more, long None (tabulate most_bounds target_place bound));
       }
 
   few : case_fault it ≡ none → n ≤ most_departures
@@ -55,13 +54,13 @@ module _ (n h : ℕ) (present strict : List ℕ) (values : List ℤ) where
 
     -- where the writer of either form returns done, the reader accepts the bytes that it counts and hands back the case without what is ignored
     pub handed_back : (out after : List ℕ) (returned first second : ℕ) → WrittenHanded f it out returned first second after → returned ≡ 4
-        → unpacked (parse (take second after)) ≡ record { judged = judged.Accepted; case = tidied it }
+        → outcome_of (parse (take second after)) ≡ Ok (tidied it)
     unfolding write_fault told
     handed_back out after returned first second w e = rw w.output (go (found out) refl)
       where
         go : (o : Option Fault) → found out ≡ o
-            → unpacked (parse (take second (output_after (found out) (packed_as f it) out))) ≡ record { judged = judged.Accepted; case = tidied it }
+            → outcome_of (parse (take second (output_after (found out) (packed_as f it) out))) ≡ Ok (tidied it)
         go (some g) q = let refused = rw q at w.numbers.kind in absurd (omega arith)
         go none q =
             let count : second ≡ length (packed_as f it) = rw q at w.numbers.value in
-            read_back agreed it (λ sound. whole (few sound)) out second (rw q (ap written.Bytes (sym count)))
+            read_back agreed it (λ sound. whole (few sound)) out second (rw q (ap Ok (sym count)))

@@ -3,26 +3,25 @@
 // Names of functions with arrays end in the most departures, which decides how long the arrays are: the header gives them to the linker under plain names.
 #![tactic(auto)]
 
-ghost use Rattle.std.specs.Prelude.{◌≡◌, ◌+◌, ◌≤◌, ◌<◌, length};
+ghost use Rattle.std.specs.Prelude.{◌≡◌, ◌+◌, ◌≤◌, ◌<◌, length, get_or};
 ghost use Rattle.model.specs.Sizes.{most_times, most_bounds};
 ghost use Rattle.model.specs.Lists.{padded, tabulate};
-ghost use Rattle.model.specs.Faults.{nothing, unmarked};
+ghost use Rattle.model.specs.Faults.{unmarked, marked};
 ghost use Rattle.model.specs.Packed.{parse};
 ghost use Rattle.model.specs.Forms.{old, wide};
-ghost use Rattle.model.specs.Answers.{answer, workspace_after, answer_packed, workspace_after_packed, unpacked, run};
+ghost use Rattle.model.specs.Answers.{outcome_of, numbers_of, answer, workspace_after, answer_packed, workspace_after_packed, run};
 ghost use Rattle.model.specs.Changes.{preview, workspace_after_preview};
 ghost use Rattle.decisions.specs.Decide.{decided};
 ghost use Rattle.embed.specs.Numbers;
-ghost use Rattle.embed.specs.Numbers.{case_entries, Handed, Told, ToldInParts, ToldExactly, written_numbers, with_count, plain_times, start_times};
-ghost use Rattle.embed.specs.Numbers.{run_answer, run_parts_answer, slot_of, slot_at, limit_at, case_in, no_marks, entries_of};
-ghost use Rattle.embed.specs.Numbers.{EntryPut, EntriesHanded, CaseHanded, WrittenHanded, ConvertedHanded, CommitHanded};
+ghost use Rattle.embed.specs.Numbers.{case_entries, Handed, HandedTimes, HandedInParts, Told, ToldInParts, ToldExactly, written_numbers, with_count};
+ghost use Rattle.embed.specs.Numbers.{plain_times, start_times, answer_start, decided_start, decided_numbers, verdict_start};
+ghost use Rattle.embed.specs.Numbers.{run_answer, run_parts_answer, flag};
+ghost use Rattle.embed.specs.Numbers.{slot_of, slot_at, limit_at, case_in, no_marks, entries_of, entry_number, EntriesHanded, read_case, CaseHanded};
+ghost use Rattle.embed.specs.Numbers.{WrittenHanded, ConvertedHanded, CommitHanded};
 
-use decisions::Decided;
+use decisions::{Decided, Finding};
 use ints::{Cycle, Seconds, ZERO};
-use model::{
-    Answer, BOUNDS, Case, DEPARTURES, FREE, Judged, Limit, NOTHING, Run, Slot, TIMES, Verdict,
-    Written,
-};
+use model::{Answer, BOUNDS, Case, DEPARTURES, Fault, Limit, Numbers, StartTimes, TIMES, Verdict};
 
 // Where the entries of an unpacked case stand: the table's from 0 on, then those of the start and of the target pattern; and how many there are.
 const START: usize = TIMES;
@@ -31,58 +30,61 @@ const TARGET: usize = START + BOUNDS;
 
 pub const ENTRIES: usize = TARGET + BOUNDS;
 
-// The entries of an unpacked case: 1 in present where one is there, and 1 in strict where it is marked so, else 0.
-#[derive(Clone, Copy)]
-struct Entries {
-    present: [u8; ENTRIES],
-    strict: [u8; ENTRIES],
-    values: [i64; ENTRIES],
-}
+// The start that is handed back where none is found.
+const NO_START: StartTimes = StartTimes {
+    parts: 0,
+    times: [ZERO; DEPARTURES],
+};
 
-// The two arrays of a case that a change of the table writes to.
+// The case that is handed back where none could be read.
+const NO_CASE: Case = Case {
+    n: 0,
+    horizon: Cycle(0),
+    times: [None; BOUNDS],
+    start: [None; BOUNDS],
+    target: [None; BOUNDS],
+};
+
+// The entries of an unpacked case as they are lent: one is there where its number in present is not 0, and strict where that in strict is not 0.
 #[derive(Clone, Copy)]
-struct TableArrays {
-    present: [u8; ENTRIES],
-    values: [i64; ENTRIES],
+struct Lent<'a> {
+    present: &'a [u8; ENTRIES],
+    strict: &'a [u8; ENTRIES],
+    values: &'a [i64; ENTRIES],
 }
 
 fn plain_times(times: [Seconds; DEPARTURES]) -> [i64; DEPARTURES]
     ensures { result ≡ plain_times times }
 {
-    let mut plain = [0i64; DEPARTURES];
-    for i in 0..DEPARTURES {
-        let time = times[i];
-        let value = time.0;
-        plain[i] = value;
-    }
-    plain
+    times.map(|time| time.0)
 }
 
 fn start_times(plain: [i64; DEPARTURES]) -> [Seconds; DEPARTURES]
     ensures { result ≡ start_times plain }
 {
-    let mut times = [ZERO; DEPARTURES];
-    for i in 0..DEPARTURES {
-        let value = plain[i];
-        times[i] = Seconds(value);
-    }
-    times
+    plain.map(Seconds)
 }
 
-// Hands an answer back, without the parts.
-fn tell(answer: Answer, fault: &mut usize, value: &mut usize, times: &mut [i64; DEPARTURES]) -> u32
-    ensures { Told answer result fault.new value.new times.new }
+fn verdict_start(verdict: Verdict) -> StartTimes
+    ensures { result ≡ verdict_start verdict }
 {
-    let verdict = answer.verdict;
-    let start = answer.start;
-    *fault = verdict.fault();
-    *value = verdict.value();
-    *times = plain_times(start);
-    verdict.kind()
+    match verdict {
+        Verdict::Reached(_, start) => start,
+        _ => NO_START,
+    }
+}
+
+// Hands three numbers back: C has no Result.
+fn hand(numbers: Numbers, fault: &mut usize, value: &mut usize) -> u32
+    ensures { Handed numbers result fault.new value.new }
+{
+    *fault = numbers.fault;
+    *value = numbers.value;
+    numbers.kind
 }
 
 // Hands an answer back.
-fn tell_in_parts(
+fn tell(
     answer: Answer,
     fault: &mut usize,
     value: &mut usize,
@@ -91,8 +93,13 @@ fn tell_in_parts(
 ) -> u32
     ensures { ToldInParts answer result fault.new value.new parts.new times.new }
 {
-    *parts = answer.parts;
-    tell(answer, fault, value, times)
+    let (numbers, start) = match answer {
+        Ok(verdict) => (Numbers::from(verdict), verdict_start(verdict)),
+        Err(cause) => (Numbers::from(cause), NO_START),
+    };
+    *parts = start.parts;
+    *times = plain_times(start.times);
+    hand(numbers, fault, value)
 }
 
 // Hands an exact answer back.
@@ -105,181 +112,94 @@ fn tell_exactly(
 ) -> u32
     ensures { ToldExactly decided result fault.new value.new parts.new times.new }
 {
-    let finding = decided.finding;
-    let start = decided.start;
-    *fault = finding.fault();
-    *value = finding.value();
-    *parts = decided.parts;
-    *times = plain_times(start);
-    finding.kind()
+    match decided {
+        Ok(Finding::Settled(verdict)) => tell(Ok(verdict), fault, value, parts, times),
+        Err(cause) => tell(Err(cause), fault, value, parts, times),
+        Ok(undecided) => {
+            *parts = 0;
+            *times = [0; DEPARTURES];
+            hand(Numbers::from(undecided), fault, value)
+        }
+    }
 }
 
-// Hands back what a writer answers.
-fn tell_written(answer: Written, fault: &mut usize, value: &mut usize) -> u32
+// Hands a count back, as of the bytes that a writer put.
+fn hand_count(answer: Result<usize, Fault>, fault: &mut usize, value: &mut usize) -> u32
     ensures { Handed (written_numbers answer) result fault.new value.new }
 {
-    match answer {
-        Written::Refused(cause) => {
-            *fault = cause.number() as usize;
-            *value = cause.returned();
-            0
-        }
-        Written::Bytes(count) => {
-            *fault = 0;
-            *value = count;
-            4
-        }
-    }
-}
-
-// What was judged, with a count where it is accepted.
-fn with_count(judged: Judged, count: usize) -> Written
-    ensures { result ≡ with_count judged count }
-{
-    match judged {
-        Judged::Refused(fault) => Written::Refused(fault),
-        Judged::Accepted => Written::Bytes(count),
-    }
-}
-
-// How a presence or a mark is handed back: 1 if it is so, else 0.
-fn flag(is: bool) -> u8
-    ensures { result ≡ Numbers.flag is }
-{
-    if is { 1 } else { 0 }
-}
-
-// Two arrays with one entry put into them.
-fn with_entry(present: [u8; ENTRIES], values: [i64; ENTRIES], k: usize, slot: Slot) -> TableArrays
-    requires { k < case_entries }
-    ensures { EntryPut k slot present values result.present result.values }
-{
-    let mut flags = present;
-    let mut numbers = values;
-    let value = slot.value;
-    let number = value.0;
-    flags[k] = flag(slot.has);
-    numbers[k] = number;
-    TableArrays {
-        present: flags,
-        values: numbers,
-    }
-}
-
-// The entries of a case as three arrays.
-fn entries_of(times: [Slot; BOUNDS], start: [Limit; BOUNDS], target: [Limit; BOUNDS]) -> Entries
-    ensures { EntriesHanded (entries_of times start target) result.present result.strict result.values }
-{
-    let mut present = [0u8; ENTRIES];
-    let mut strict = [0u8; ENTRIES];
-    let mut values = [0i64; ENTRIES];
-    for k in 0..ENTRIES {
-        let entry = if k < START {
-            packed::unmarked(times[k])
-        } else if k < TARGET {
-            start[k - START]
-        } else {
-            target[k - TARGET]
-        };
-        let value = entry.value;
-        let number = value.0;
-        present[k] = flag(entry.has);
-        strict[k] = flag(entry.strict);
-        values[k] = number;
-    }
-    Entries {
-        present,
-        strict,
-        values,
-    }
+    let numbers = match answer {
+        Ok(count) => Numbers {
+            kind: 4,
+            fault: 0,
+            value: count,
+        },
+        Err(cause) => Numbers::from(cause),
+    };
+    hand(numbers, fault, value)
 }
 
 // A run as an answer, in parts of which parts make a second.
-fn run_answer(run: Run, cycle: Cycle, parts: usize) -> Answer
+fn run_answer(run: Result<[Seconds; DEPARTURES], Fault>, cycle: Cycle, parts: usize) -> Answer
     ensures { result ≡ run_answer run cycle.0 parts }
 {
-    let judged = run.judged;
-    let start = run.times;
-    match judged {
-        Judged::Refused(fault) => Answer {
-            verdict: Verdict::Refused(fault),
-            parts: 0,
-            start,
-        },
-        Judged::Accepted => Answer {
-            verdict: Verdict::Reached(cycle),
-            parts,
-            start,
-        },
-    }
+    let times = run?;
+    Ok(Verdict::Reached(cycle, StartTimes { parts, times }))
 }
 
-fn slot_of(has: u8, value: i64) -> Slot
+fn slot_of(has: u8, value: i64) -> Option<Seconds>
     ensures { result ≡ slot_of has value }
 {
-    Slot {
-        has: has != 0,
-        value: Seconds(value),
+    if has == 0 {
+        return None;
+    }
+    Some(Seconds(value))
+}
+
+impl Lent<'_> {
+    #[tactic(auto, unfolding(crate::specs::Numbers::slot_at))]
+    fn slot_at(self, k: usize) -> Option<Seconds>
+        requires { k < case_entries }
+        ensures { result ≡ slot_at self.entry.present.now self.entry.values.now k }
+    {
+        slot_of(self.present[k], self.values[k])
+    }
+
+    #[tactic(auto, unfolding(crate::specs::Numbers::limit_at))]
+    fn limit_at(self, k: usize) -> Option<Limit>
+        requires { k < case_entries }
+        ensures { result ≡ limit_at self.entry.present.now self.entry.strict.now self.entry.values.now k }
+    {
+        let value = self.slot_at(k)?;
+        let strict = self.strict[k] != 0;
+        Some(Limit { strict, value })
+    }
+
+    // The times of the table.
+    fn table(self) -> [Option<Seconds>; BOUNDS]
+        ensures { result ≡ padded None most_bounds (tabulate most_times 0 (slot_at self.entry.present.now self.entry.values.now)) }
+    {
+        let mut times = [None; BOUNDS];
+        for k in 0..TIMES {
+            times[k] = self.slot_at(k);
+        }
+        times
+    }
+
+    // The bounds of a pattern that stands from first on.
+    fn pattern(self, first: usize) -> [Option<Limit>; BOUNDS]
+        requires { first + most_bounds ≤ case_entries }
+        ensures { result ≡ padded None most_bounds
+            (tabulate most_bounds first (limit_at self.entry.present.now self.entry.strict.now self.entry.values.now)) }
+    {
+        let mut bounds = [None; BOUNDS];
+        for k in 0..BOUNDS {
+            bounds[k] = self.limit_at(first + k);
+        }
+        bounds
     }
 }
 
-fn slot_at(present: &[u8; ENTRIES], values: &[i64; ENTRIES], k: usize) -> Slot
-    requires { k < case_entries }
-    ensures { result ≡ slot_at present.now values.now k }
-{
-    slot_of(present[k], values[k])
-}
-
-fn limit_at(
-    present: &[u8; ENTRIES],
-    strict: &[u8; ENTRIES],
-    values: &[i64; ENTRIES],
-    k: usize,
-) -> Limit
-    requires { k < case_entries }
-    ensures { result ≡ limit_at present.now strict.now values.now k }
-{
-    let slot = slot_at(present, values, k);
-    let value = slot.value;
-    let mark = strict[k];
-    Limit {
-        has: slot.has,
-        strict: mark != 0,
-        value,
-    }
-}
-
-// The times of the table.
-fn table_in(present: &[u8; ENTRIES], values: &[i64; ENTRIES]) -> [Slot; BOUNDS]
-    ensures { result ≡ padded nothing most_bounds (tabulate most_times 0 (slot_at present.now values.now)) }
-{
-    let mut times = [NOTHING; BOUNDS];
-    for k in 0..TIMES {
-        let time = slot_at(present, values, k);
-        times[k] = time;
-    }
-    times
-}
-
-// The bounds of a pattern that stands from first on.
-fn pattern_in(
-    present: &[u8; ENTRIES],
-    strict: &[u8; ENTRIES],
-    values: &[i64; ENTRIES],
-    first: usize,
-) -> [Limit; BOUNDS]
-    requires { first + most_bounds ≤ case_entries }
-    ensures { result ≡ padded (unmarked nothing) most_bounds
-        (tabulate most_bounds first (limit_at present.now strict.now values.now)) }
-{
-    let mut bounds = [FREE; BOUNDS];
-    for k in 0..BOUNDS {
-        let bound = limit_at(present, strict, values, first + k);
-        bounds[k] = bound;
-    }
-    bounds
-}
-
+#[tactic(auto, unfolding(crate::specs::Numbers::case_in))]
 fn case_in(
     n: usize,
     horizon: usize,
@@ -289,15 +209,74 @@ fn case_in(
 ) -> Case
     ensures { result ≡ case_in n horizon present.now strict.now values.now }
 {
-    let times = table_in(present, values);
-    let start = pattern_in(present, strict, values, START);
-    let target = pattern_in(present, strict, values, TARGET);
+    let lent = Lent {
+        present,
+        strict,
+        values,
+    };
     Case {
         n,
         horizon: Cycle(horizon),
-        times,
-        start,
-        target,
+        times: lent.table(),
+        start: lent.pattern(START),
+        target: lent.pattern(TARGET),
+    }
+}
+
+// Entry k of a case, the table's first, then those of the start and of the target.
+fn entry_at(case: &Case, k: usize) -> Option<Limit>
+    requires { k < case_entries }
+    ensures { result ≡ get_or (entries_of case.now.times case.now.start case.now.target) k None }
+{
+    if k < START {
+        packed::unmarked(case.times[k])
+    } else if k < TARGET {
+        case.start[k - START]
+    } else {
+        case.target[k - TARGET]
+    }
+}
+
+// How a presence or a mark is handed back: 1 if it is so, else 0.
+fn flag(is: bool) -> u8
+    ensures { result ≡ flag is }
+{
+    u8::from(is)
+}
+
+fn mark(entry: Option<Limit>) -> u8
+    ensures { result ≡ flag (marked entry) }
+{
+    match entry {
+        Some(limit) => flag(limit.strict),
+        None => 0,
+    }
+}
+
+// The number of an entry, 0 where it is absent.
+fn number(entry: Option<Limit>) -> i64
+    ensures { result ≡ entry_number entry }
+{
+    match entry {
+        Some(limit) => limit.value.0,
+        None => 0,
+    }
+}
+
+// Hands the entries of a case back in three arrays: 1 in present where one is there and 1 in strict where it is strict, else 0.
+fn hand_entries(
+    case: Case,
+    present: &mut [u8; ENTRIES],
+    strict: &mut [u8; ENTRIES],
+    values: &mut [i64; ENTRIES],
+)
+    ensures { EntriesHanded (entries_of case.times case.start case.target) present.new strict.new values.new }
+{
+    for k in 0..ENTRIES {
+        let entry = entry_at(&case, k);
+        present[k] = flag(entry.is_some());
+        strict[k] = mark(entry);
+        values[k] = number(entry);
     }
 }
 
@@ -317,7 +296,7 @@ pub extern "C" fn tramcheck_verdict_15(
     ensures work_after { work.new ≡ workspace_after_packed bytes.now capacity work.old }
 {
     let answer = verdict::verdict_packed(bytes, capacity, work);
-    tell_in_parts(answer, fault, value, parts, start)
+    tell(answer, fault, value, parts, start)
 }
 
 // The verdict on an unpacked case.
@@ -343,7 +322,7 @@ pub extern "C" fn tramcheck_verdict_unpacked_15(
 {
     let case = case_in(n, horizon, present, strict, values);
     let answer = verdict::verdict(case, capacity, work);
-    tell_in_parts(answer, fault, value, parts, start)
+    tell(answer, fault, value, parts, start)
 }
 
 // The exact answer on an unpacked case: over so many cycles, whatever the case's own horizon is, and with so many steps.
@@ -386,16 +365,21 @@ pub extern "C" fn tramcheck_run_15(
         (run_answer (run (case_in n 0 present.now no_marks values.now) (start_times start.now) cycle) cycle 1)
         result fault.new value.new times.new }
 {
-    let strict = [0u8; ENTRIES];
-    let case = case_in(n, 0, present, &strict, values);
-    let from = start_times(*start);
-    let run = runs::run(case, from, Cycle(cycle));
-    let answer = run_answer(run, Cycle(cycle), 1);
-    tell(answer, fault, value, times)
+    let case = case_in(n, 0, present, &[0; ENTRIES], values);
+    let run = runs::run(case, start_times(*start), Cycle(cycle));
+    let mut parts = 0;
+    tell(
+        run_answer(run, Cycle(cycle), 1),
+        fault,
+        value,
+        &mut parts,
+        times,
+    )
 }
 
 // The same in the parts of a second that a start of the case is in: the start times, and those of the cycle.
 #[unsafe(no_mangle)]
+#[tactic(auto, using(crate::proofs::Handed::parts_told))]
 pub extern "C" fn tramcheck_run_parts_15(
     n: usize,
     present: &[u8; ENTRIES],
@@ -413,11 +397,9 @@ pub extern "C" fn tramcheck_run_parts_15(
         result fault.new value.new parts.new times.new }
 {
     let case = case_in(n, 0, present, strict, values);
-    let from = start_times(*start);
-    let run = runs::run_parts(case, from, Cycle(cycle));
-    let factor = judge::parts(case);
-    let answer = run_answer(run, Cycle(cycle), factor);
-    tell_in_parts(answer, fault, value, parts, times)
+    let run = runs::run_parts(case, start_times(*start), Cycle(cycle));
+    let answer = run_answer(run, Cycle(cycle), judge::parts(case));
+    tell(answer, fault, value, parts, times)
 }
 
 // The verdict on an unpacked case with one time replaced or blanked.
@@ -447,7 +429,7 @@ pub extern "C" fn tramcheck_preview_15(
     let case = case_in(n, horizon, present, strict, values);
     let slot = slot_of(has, time);
     let answer = preview::preview(case, row, column, slot, capacity, work);
-    tell_in_parts(answer, fault, value, parts, start)
+    tell(answer, fault, value, parts, start)
 }
 
 // Writes an unpacked case in document 01's packed form to the front of out.
@@ -467,7 +449,7 @@ pub extern "C" fn tramcheck_write_15(
 {
     let case = case_in(n, horizon, present, strict, values);
     let answer = packer::write(case, out);
-    tell_written(answer, fault, value)
+    hand_count(answer, fault, value)
 }
 
 // The same in the wide form.
@@ -487,7 +469,7 @@ pub extern "C" fn tramcheck_write_wide_15(
 {
     let case = case_in(n, horizon, present, strict, values);
     let answer = packer::write_wide(case, out);
-    tell_written(answer, fault, value)
+    hand_count(answer, fault, value)
 }
 
 // A packed case in document 01's form to the wide form, in front of out.
@@ -501,7 +483,7 @@ pub extern "C" fn tramcheck_to_wide(
     ensures { ConvertedHanded old wide bytes.now out.old result fault.new value.new out.new }
 {
     let answer = convert::to_wide(bytes, out);
-    tell_written(answer, fault, value)
+    hand_count(answer, fault, value)
 }
 
 // And back, where nothing is lost.
@@ -515,7 +497,7 @@ pub extern "C" fn tramcheck_to_old(
     ensures { ConvertedHanded wide old bytes.now out.old result fault.new value.new out.new }
 {
     let answer = convert::to_old(bytes, out);
-    tell_written(answer, fault, value)
+    hand_count(answer, fault, value)
 }
 
 // Reads a packed case, in either form, and hands it back unpacked; the empty case where it is refused.
@@ -530,29 +512,16 @@ pub extern "C" fn tramcheck_read_15(
     fault: &mut usize,
     value: &mut usize,
 ) -> u32
-    ensures handed { Handed (written_numbers (with_count (unpacked (parse bytes.now)).judged (length bytes.now)))
+    ensures handed { Handed (written_numbers (with_count (outcome_of (parse bytes.now)) (length bytes.now)))
         result fault.new value.new }
-    ensures case_handed { CaseHanded (unpacked (parse bytes.now)).case
-        n.new horizon.new present.new strict.new values.new }
+    ensures case_handed { CaseHanded (read_case (parse bytes.now)) n.new horizon.new present.new strict.new values.new }
 {
     let read = packed::read(bytes);
-    let case = read.case;
-    let cycles = case.horizon;
+    let case = read.unwrap_or(NO_CASE);
     *n = case.n;
-    *horizon = cycles.0;
-    let times = case.times;
-    let start = case.start;
-    let target = case.target;
-    let entries = entries_of(times, start, target);
-    let flags = entries.present;
-    *present = flags;
-    let marks = entries.strict;
-    *strict = marks;
-    let numbers = entries.values;
-    *values = numbers;
-    let judged = read.judged;
-    let answer = with_count(judged, bytes.len());
-    tell_written(answer, fault, value)
+    *horizon = case.horizon.0;
+    hand_entries(case, present, strict, values);
+    hand_count(read.map(|_| bytes.len()), fault, value)
 }
 
 // Changes one time of an unpacked case where it stands; on a refusal everything stays as it was.
@@ -570,21 +539,15 @@ pub extern "C" fn tramcheck_commit_15(
     fault: &mut usize,
     value: &mut usize,
 ) -> u32
-    ensures { CommitHanded n horizon present.old strict.now values.old row column (slot_of has time)
+    ensures { CommitHanded n horizon present.old strict.now values.old row column has time
         result fault.new value.new present.new values.new }
 {
     let case = case_in(n, horizon, present, strict, values);
-    let slot = slot_of(has, time);
-    let done = preview::commit(case, row, column, slot);
-    let judged = done.judged;
-    if let Judged::Accepted = judged {
+    let done = preview::commit(case, row, column, slot_of(has, time));
+    if done.is_ok() {
         let k = (row - 1) * n + (column - 1);
-        let changed = with_entry(*present, *values, k, slot);
-        let flags = changed.present;
-        *present = flags;
-        let numbers = changed.values;
-        *values = numbers;
+        present[k] = flag(has != 0);
+        values[k] = time;
     }
-    let answer = with_count(judged, 0);
-    tell_written(answer, fault, value)
+    hand_count(done.map(|_| 0), fault, value)
 }

@@ -6,55 +6,68 @@ ghost use Rattle.std.specs.Int.Signed.{le_z, lt_z};
 ghost use Rattle.std.specs.Int.{w64};
 ghost use Rattle.std.proofs.Common.{SFits};
 
+use std::ops::{Add, Neg, Sub};
+
 // A time stamp.
-#[derive(Clone, Copy)]
+#[derive(Clone, Copy, Debug, PartialEq, Eq, PartialOrd, Ord)]
 pub struct Seconds(pub i64);
 
 pub const ZERO: Seconds = Seconds(0);
 
 // An event counter.
-#[derive(Clone, Copy)]
+#[derive(Clone, Copy, Debug, PartialEq, Eq, PartialOrd, Ord)]
 pub struct Cycle(pub usize);
 
-impl Seconds {
-    pub fn of(value: i32) -> Seconds
-        ensures { result.0 ≡ value }
-    {
+impl From<i32> for Seconds {
+    ghost from_gives = { λ value x. x.0 ≡ value };
+
+    fn from(value: i32) -> Seconds {
         Seconds(value as i64)
     }
+}
 
-    // Sum, difference and negation are exact, up to both ends of the range.
-    pub fn plus(self, other: Seconds) -> Seconds
-        requires { SFits w64 (self.0 +ℤ other.0) }
-        ensures { result.0 ≡ self.0 +ℤ other.0 }
-    {
+// Sum, difference and negation are exact, up to both ends of the range.
+impl Add for Seconds {
+    type Output = Seconds;
+
+    ghost can_add = { λ a b. SFits w64 (a.0 +ℤ b.0) };
+
+    ghost add_gives = { λ a b sum. sum.0 ≡ a.0 +ℤ b.0 };
+
+    fn add(self, other: Seconds) -> Seconds {
         Seconds(self.0 + other.0)
     }
+}
 
-    pub fn minus(self, other: Seconds) -> Seconds
-        requires { SFits w64 (self.0 -ℤ other.0) }
-        ensures { result.0 ≡ self.0 -ℤ other.0 }
-    {
+impl Sub for Seconds {
+    type Output = Seconds;
+
+    ghost can_sub = { λ a b. SFits w64 (a.0 -ℤ b.0) };
+
+    ghost sub_gives = { λ a b difference. difference.0 ≡ a.0 -ℤ b.0 };
+
+    fn sub(self, other: Seconds) -> Seconds {
         Seconds(self.0 - other.0)
     }
+}
 
-    pub fn negated(self) -> Seconds
-        requires { SFits w64 (neg_ℤ self.0) }
-        ensures { result.0 ≡ neg_ℤ self.0 }
-    {
+impl Neg for Seconds {
+    type Output = Seconds;
+
+    ghost can_neg = { λ a. SFits w64 (neg_ℤ a.0) };
+
+    ghost neg_gives = { λ a negation. negation.0 ≡ neg_ℤ a.0 };
+
+    fn neg(self) -> Seconds {
         Seconds(-self.0)
     }
+}
 
-    pub fn less(self, other: Seconds) -> bool
-        ensures { result ≡ lt_z self.0 other.0 }
+impl Seconds {
+    pub fn is_negative(self) -> bool
+        ensures { result ≡ lt_z self.0 (pos 0) }
     {
-        self.0 < other.0
-    }
-
-    pub fn at_most(self, other: Seconds) -> bool
-        ensures { result ≡ le_z self.0 other.0 }
-    {
-        self.0 <= other.0
+        self < ZERO
     }
 
     // More than limit in size.
@@ -62,11 +75,8 @@ impl Seconds {
         requires { limit < 2 ^ 63 }
         ensures { result ≡ ltb limit (nat_abs self.0) }
     {
-        if self.0 < 0 {
-            self.0 < -(limit as i64)
-        } else {
-            (limit as i64) < self.0
-        }
+        let limit = Seconds(limit as i64);
+        !(-limit <= self && self <= limit)
     }
 }
 

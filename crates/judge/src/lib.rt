@@ -1,239 +1,238 @@
 // Judges an unpacked case: the first fault of the case by itself, for a packed form, of a call for a verdict, and of a run. Also, the parts of its start.
 #![tactic(auto)]
 
-ghost use Rattle.std.specs.Prelude.{◌≡◌, map, ◌≤◌, ◌<◌, ◌^◌, take, ltb};
+ghost use Rattle.std.specs.Prelude.{◌≡◌, map, ◌≤◌, ◌<◌, ◌^◌, ◌+◌, length, is_some, ltb};
+ghost use Rattle.std.specs.List.{list_any};
 ghost use Rattle.model.specs.declared.Fault.TheVariants as fault;
-ghost use Rattle.model.specs.Sizes.{most_departures, most_bounds, start_limit};
+ghost use Rattle.model.specs.Sizes.{most_departures, most_times, most_bounds, time_limit, start_limit};
 ghost use Rattle.model.specs.Forms.{most_in};
-ghost use Rattle.model.specs.Lists.{any_of};
-ghost use Rattle.model.specs.Search.{is_strict};
 ghost use Rattle.model.specs.Faults;
-ghost use Rattle.model.specs.Faults.{bound_of, present, over, bound_fault_in, entry_fault, rows_fault, times_fault, table_fault, patterns_fault};
+ghost use Rattle.model.specs.Faults.{present, marked, over, bound_fault_in, entry_fault, rows_fault, times_fault, table_fault, patterns_fault};
 ghost use Rattle.model.specs.Faults.{case_fault, form_fault, room_fault, call_fault, run_fault};
 ghost use Rattle.model.specs.Conditions.{Departures};
-ghost use Rattle.judge.specs.Judgement.{judged_by, start_parts};
+ghost use Rattle.model.specs.Answers.{judged};
+ghost use Rattle.judge.specs.Judgement.{start_parts};
 
 use ints::{Cycle, Seconds};
 use model::{
-    BOUND_LIMIT, BOUNDS, CYCLES, Case, DEPARTURES, Fault, Form, Judged, Limit, START_LIMIT, Slot,
-    TIME_LIMIT, WIDE, ZONES,
+    BOUND_LIMIT, BOUNDS, CYCLES, Case, DEPARTURES, Fault, Form, Limit, START_LIMIT, TIME_LIMIT,
+    WIDE, ZONES,
 };
 
 // Below low or above high.
+#[tactic(auto, unfolding(model::specs::Faults::outside))]
 pub fn outside(low: usize, high: usize, k: usize) -> bool
     ensures { result ≡ Faults.outside low high k }
 {
     k < low || high < k
 }
 
-// Present, and more than limit in size.
-fn beyond(slot: Slot, limit: u64) -> bool
+// There, and more than limit in size.
+#[tactic(auto, unfolding(model::specs::Faults::beyond))]
+fn beyond(time: Option<Seconds>, limit: u64) -> bool
     requires { limit < 2 ^ 63 }
-    ensures { result ≡ Faults.beyond limit slot }
+    ensures { result ≡ Faults.beyond limit time }
 {
-    slot.has && slot.value.beyond(limit)
+    match time {
+        Some(value) => value.beyond(limit),
+        None => false,
+    }
+}
+
+// Fault 4: the first time of a row that is beyond the limit, the row's entries being numbered from first on.
+#[tactic(auto, unfolding(model::specs::Faults::over))]
+fn entries_fault(row: &[Option<Seconds>], first: usize) -> Result<(), Fault>
+    requires { first + length row.now ≤ most_times }
+    ensures { result ≡ judged (entry_fault (over time_limit fault.Time) first row.now) }
+{
+    for (column, time) in row.iter().enumerate() {
+        if beyond(*time, TIME_LIMIT) {
+            return Err(Fault::Time(first + column));
+        }
+    }
+    Ok(())
+}
+
+// A row holds a time.
+fn holds_time(row: &[Option<Seconds>]) -> bool
+    ensures { result ≡ list_any is_some row.now }
+{
+    row.iter().any(|time| time.is_some())
 }
 
 // Faults 4 and 5: each row's entries, then whether it holds a time.
-fn rows_fault(times: [Slot; BOUNDS], n: usize) -> Judged
+fn rows_fault(times: [Option<Seconds>; BOUNDS], n: usize) -> Result<(), Fault>
     requires { Departures n }
-    ensures { result ≡ judged_by (rows_fault n n 0 times) }
+    ensures { result ≡ judged (rows_fault n n 0 times) }
 {
-    let mut judged = Judged::Accepted;
-    'rows: for row in 0..n {
+    for row in 0..n {
         let first = row * n;
-        let mut some = false;
-        for column in 0..n {
-            let k = first + column;
-            let slot = times[k];
-            if beyond(slot, TIME_LIMIT) {
-                judged = Judged::Refused(Fault::Time(k));
-                break 'rows;
-            }
-            some = some | slot.has;
-        }
-        if !some {
-            judged = Judged::Refused(Fault::EmptyRow(first));
-            break 'rows;
+        let entries = &times[first..first + n];
+        entries_fault(entries, first)?;
+        if !holds_time(entries) {
+            return Err(Fault::EmptyRow(first));
         }
     }
-    judged
+    Ok(())
 }
 
 // Fault 6 of a bound, then 16 if it is strict where the form has no place for a mark.
-fn bound_fault(bound: Limit, place: usize, form: Form) -> Judged
-    ensures { result ≡ judged_by (bound_fault_in form place bound) }
+#[tactic(auto, unfolding(model::specs::Faults::bound_fault_in, model::specs::Faults::bound_fault, model::specs::Faults::over, model::specs::Faults::beyond))]
+fn bound_fault(bound: Option<Limit>, place: usize, form: Form) -> Result<(), Fault>
+    ensures { result ≡ judged (bound_fault_in form place bound) }
 {
-    let value = bound.value;
-    let slot = Slot {
-        has: bound.has,
-        value,
+    let Some(limit) = bound else {
+        return Ok(());
     };
-    if beyond(slot, BOUND_LIMIT) {
-        return Judged::Refused(Fault::Bound(place));
+    if limit.value.beyond(BOUND_LIMIT) {
+        return Err(Fault::Bound(place));
     }
-    if (form.mark == 0) & (bound.has & bound.strict) {
-        return Judged::Refused(Fault::Form(place));
+    if form.mark == 0 && limit.strict {
+        return Err(Fault::Form(place));
     }
-    Judged::Accepted
+    Ok(())
 }
 
-// Faults 6 and 16 of one pattern: its first count bounds, numbered from offset on.
-fn bounds_fault(bounds: [Limit; BOUNDS], count: usize, offset: usize, form: Form) -> Judged
-    requires { (count ≤ most_bounds) × (offset ≤ most_bounds) }
-    ensures { result ≡ judged_by (entry_fault (bound_fault_in form) offset (take count bounds)) }
+// Faults 6 and 16 of the bounds of a pattern, numbered from offset on.
+fn bounds_fault(bounds: &[Option<Limit>], offset: usize, form: Form) -> Result<(), Fault>
+    requires { (length bounds.now ≤ most_bounds) × (offset ≤ most_bounds) }
+    ensures { result ≡ judged (entry_fault (bound_fault_in form) offset bounds.now) }
 {
-    for i in 0..count {
-        let bound = bounds[i];
-        if let Judged::Refused(f) = bound_fault(bound, offset + i, form) {
-            return Judged::Refused(f);
-        }
+    for (i, bound) in bounds.iter().enumerate() {
+        bound_fault(*bound, offset + i, form)?;
     }
-    Judged::Accepted
+    Ok(())
 }
 
-// Fault 13: the first n start times.
-fn starts_fault(start: [Seconds; DEPARTURES], n: usize) -> Judged
-    requires { Departures n }
-    ensures { result ≡ judged_by (entry_fault (over start_limit fault.StartTime) 0 (map (λ x. present x.0) (take n start))) }
+// Fault 13 of start times.
+fn starts_fault(start: &[Seconds]) -> Result<(), Fault>
+    requires { length start.now ≤ most_departures }
+    ensures { result ≡ judged (entry_fault (over start_limit fault.StartTime) 0 (map (λ x. present x.0) start.now)) }
 {
-    for i in 0..n {
-        let x = start[i];
-        if x.beyond(START_LIMIT) {
-            return Judged::Refused(Fault::StartTime(i));
+    for (i, time) in start.iter().enumerate() {
+        if time.beyond(START_LIMIT) {
+            return Err(Fault::StartTime(i));
         }
     }
-    Judged::Accepted
+    Ok(())
 }
 
 // Fault 3 for k cycles of which there are to be at least low, then 4 and 5.
-fn times_fault(case: Case, low: usize, k: usize) -> Judged
+#[tactic(auto, using(model::proofs::Outcomes::judgements))]
+fn times_fault(case: Case, low: usize, k: usize) -> Result<(), Fault>
     requires { Departures case.n }
-    ensures { result ≡ judged_by (times_fault case low k) }
+    ensures { result ≡ judged (times_fault case low k) }
 {
     let n = case.n;
     if outside(low, CYCLES, k) {
-        return Judged::Refused(Fault::Horizon);
+        return Err(Fault::Horizon);
     }
-    let times = case.times;
-    rows_fault(times, n)
+    rows_fault(case.times, n)
 }
 
 // Fault 2, then 3 to 5.
-fn table_fault(case: Case, low: usize, k: usize) -> Judged
-    ensures { result ≡ judged_by (table_fault case low k) }
+#[tactic(auto, using(model::proofs::Outcomes::judgements), unfolding(model::specs::Faults::table_fault, model::specs::Faults::outside))]
+fn table_fault(case: Case, low: usize, k: usize) -> Result<(), Fault>
+    ensures { result ≡ judged (table_fault case low k) }
 {
     let n = case.n;
     if outside(1, DEPARTURES, n) {
-        return Judged::Refused(Fault::Departures);
+        return Err(Fault::Departures);
     }
     times_fault(case, low, k)
 }
 
 // Faults 6 and 16: the start, then the target, whose bounds are numbered after those of the start.
-fn patterns_fault(case: Case, form: Form) -> Judged
+#[tactic(auto, using(model::proofs::Outcomes::judgements), unfolding(model::specs::Faults::patterns_fault))]
+fn patterns_fault(case: Case, form: Form) -> Result<(), Fault>
     requires { Departures case.n }
-    ensures { result ≡ judged_by (patterns_fault (bound_fault_in form) case) }
+    ensures { result ≡ judged (patterns_fault (bound_fault_in form) case) }
 {
     let n = case.n;
     let size = n * (n + 1);
-    let start = case.start;
-    let target = case.target;
-    if let Judged::Refused(f) = bounds_fault(start, size, 0, form) {
-        return Judged::Refused(f);
-    }
-    bounds_fault(target, size, size, form)
+    bounds_fault(&case.start[..size], 0, form)?;
+    bounds_fault(&case.target[..size], size, form)
 }
 
 // Faults 9 and 10. The product is formed only where it is small.
-fn room_fault(n: usize, capacity: usize, size: usize) -> Judged
+#[tactic(auto, using(model::proofs::Outcomes::judgements), unfolding(model::specs::Faults::room_fault, model::specs::Faults::outside))]
+fn room_fault(n: usize, capacity: usize, size: usize) -> Result<(), Fault>
     requires { Departures n }
-    ensures { result ≡ judged_by (room_fault n capacity size) }
+    ensures { result ≡ judged (room_fault n capacity size) }
 {
     if outside(1, ZONES, capacity) {
-        return Judged::Refused(Fault::Capacity);
+        return Err(Fault::Capacity);
     }
     if size < 2 * (capacity * ((n + 1) * (n + 1))) {
-        return Judged::Refused(Fault::Workspace);
+        return Err(Fault::Workspace);
     }
-    Judged::Accepted
+    Ok(())
 }
 
 // The form has no place for so many departures. The wide one has a place for all that there can be.
+#[tactic(auto, unfolding(model::specs::Forms::most_in))]
 fn too_many(n: usize, form: Form) -> bool
     requires { n ≤ most_departures }
     ensures { result ≡ ltb (most_in form) n }
 {
-    let wide = WIDE;
     let digits = form.digits;
-    if wide.digits <= digits {
-        return false;
-    }
-    (1 << digits) <= n
+    digits < WIDE.digits && (1 << digits) <= n
 }
 
 // The first fault of a case for a packed form: 2, 16 of n, 3 to 5, then 6 and 16 bound by bound.
-pub fn form_fault(case: Case, form: Form) -> Judged
-    ensures { result ≡ judged_by (form_fault form case) }
+#[tactic(auto, using(model::proofs::Outcomes::judgements), unfolding(model::specs::Faults::form_fault, model::specs::Faults::outside))]
+pub fn form_fault(case: Case, form: Form) -> Result<(), Fault>
+    ensures { result ≡ judged (form_fault form case) }
 {
     let n = case.n;
-    let horizon = case.horizon;
-    let cycles = horizon.0;
+    let cycles = case.horizon.0;
     if outside(1, DEPARTURES, n) {
-        return Judged::Refused(Fault::Departures);
+        return Err(Fault::Departures);
     }
     if too_many(n, form) {
-        return Judged::Refused(Fault::Form(0));
+        return Err(Fault::Form(0));
     }
-    if let Judged::Refused(f) = times_fault(case, 1, cycles) {
-        return Judged::Refused(f);
-    }
+    times_fault(case, 1, cycles)?;
     patterns_fault(case, form)
 }
 
 // The first fault of a case by itself, 2 to 6: the wide form has a place for every case.
-pub fn case_fault(case: Case) -> Judged
-    ensures { result ≡ judged_by (case_fault case) }
+#[tactic(auto, using(model::proofs::Limits::wide_fault))]
+pub fn case_fault(case: Case) -> Result<(), Fault>
+    ensures { result ≡ judged (case_fault case) }
 {
     form_fault(case, WIDE)
 }
 
 // The first fault of a call for a verdict, capacity being Z and size the length of the workspace.
-pub fn call_fault(case: Case, capacity: usize, size: usize) -> Judged
-    ensures { result ≡ judged_by (call_fault case capacity size) }
+#[tactic(auto, using(crate::proofs::Laws::known_departures), unfolding(model::specs::Faults::call_fault))]
+pub fn call_fault(case: Case, capacity: usize, size: usize) -> Result<(), Fault>
+    ensures { result ≡ judged (call_fault case capacity size) }
 {
-    let n = case.n;
-    if let Judged::Refused(f) = case_fault(case) {
-        return Judged::Refused(f);
-    }
-    room_fault(n, capacity, size)
+    case_fault(case)?;
+    room_fault(case.n, capacity, size)
 }
 
 // The first fault of a run from some start times to a cycle.
-pub fn run_fault(case: Case, start: [Seconds; DEPARTURES], cycle: Cycle) -> Judged
-    ensures { result ≡ judged_by (run_fault case start cycle.0) }
+#[tactic(auto, using(crate::proofs::Laws::known_departures), unfolding(model::specs::Faults::run_fault))]
+pub fn run_fault(case: Case, start: [Seconds; DEPARTURES], cycle: Cycle) -> Result<(), Fault>
+    ensures { result ≡ judged (run_fault case start cycle.0) }
 {
-    let n = case.n;
-    if let Judged::Refused(f) = table_fault(case, 0, cycle.0) {
-        return Judged::Refused(f);
-    }
-    starts_fault(start, n)
+    table_fault(case, 0, cycle.0)?;
+    starts_fault(&start[..case.n])
 }
 
-// One of the first count bounds is strict.
-fn some_strict(bounds: [Limit; BOUNDS], count: usize) -> bool
-    requires { count ≤ most_bounds }
-    ensures { result ≡ any_of is_strict (map bound_of (take count bounds)) }
+// One of the bounds is strict.
+fn some_strict(bounds: &[Option<Limit>]) -> bool
+    ensures { result ≡ list_any marked bounds.now }
 {
-    let mut some = false;
-    for i in 0..count {
-        let bound = bounds[i];
-        some = some | (bound.has & bound.strict);
-    }
-    some
+    bounds
+        .iter()
+        .any(|bound| matches!(bound, Some(limit) if limit.strict))
 }
 
 // The parts of a second that a start of the case is in: 0 where its number of departures is refused.
+#[tactic(auto, using(crate::proofs::Laws::counted_parts))]
 pub fn parts(case: Case) -> usize
     ensures { result ≡ start_parts case }
 {
@@ -242,9 +241,7 @@ pub fn parts(case: Case) -> usize
         return 0;
     }
     let size = n * (n + 1);
-    let start = case.start;
-    let target = case.target;
-    if some_strict(start, size) | some_strict(target, size) {
+    if some_strict(&case.start[..size]) || some_strict(&case.target[..size]) {
         return n + 1;
     }
     1

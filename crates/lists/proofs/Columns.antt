@@ -1,15 +1,12 @@
 -- A column of the table, and what a set becomes with it.
 use Prim.Native.Nat.{ℕ, suc, ◌+◌, ◌-◌, ◌≤◌, ◌<◌}
 use native.Mathlib.Omega.{arith}
-use native.Mathlib.Decide.{ℕ_discrete}
-use mathlib.Core.Path.{◌≡◌, refl}
-use mathlib.Core.Bool.{false}
+use mathlib.Core.Path.{◌≡◌}
 use mathlib.Core.List.{List, [], ◌∷◌, ◌++◌, map}
 use mathlib.Core.Option.{some}
 use lib.IntN.{ℤ}
-use Rattle.ints.proofs.Integers.{impossible}
 use Rattle.model.specs.Matrix.{Matrix}
-use Rattle.model.specs.Network.{Time, blank, secs, scale_time, time, is_time}
+use Rattle.model.specs.Network.{Time, scale_time}
 use Rattle.model.specs.Search.{row_constraints, rows_constraints}
 use Rattle.model.specs.Conditions.{Column, Selection, choose, Chosen, image, sum, Before, Fits, Fitting}
 use Rattle.model.proofs.Zones.{closed, all_closed}
@@ -24,24 +21,7 @@ use Rattle.zones.specs.Conditions.{RowReady}
 use Rattle.zones.proofs.Standing.{closed_in}
 use Rattle.ahead.specs.Outlook.{Outlook}
 use Rattle.ahead.proofs.Keeping.{next_kept}
-use Rattle.lists.specs.Selecting.{with_column, Selecting, Passed}
-
--- ---- blank columns passed over
-is_blank : (t : Time) → is_time t ≡ false → t ≡ blank
-unfolding is_time
-is_blank blank e = refl
-is_blank (secs v) e = impossible cc
-
-module _ {n : ℕ} {a : List Time} {i : ℕ} where
-  pub passed_none : {s : ℕ} → s ≤ suc n → Passed n a i s s
-  passed_none h = record { from = omega arith; to = h; blank = λ t l u. absurd (omega arith) }
-
-  pub passed_more : {s t : ℕ} → Passed n a i s t → t ≤ n → is_time (time n a i t) ≡ false → Passed n a i s (t + 1)
-  passed_more {s} {t} c h e = record {
-    from = omega (arith, c.from);
-    to = omega arith;
-    blank = λ u l k. elim (ℕ_discrete u t) [ yes p ↦ rw p (is_blank (time n a i t) e) | no p ↦ c.blank u l (omega arith) ];
-  }
+use Rattle.lists.specs.Selecting.{with_column, Selecting}
 
 -- ---- the set that column s of row i leaves
 module _ {n : ℕ} {times zone : List ℤ} {part : Matrix} {cols : List ℕ} {i : ℕ} (sel : Selecting n times zone part cols i) (row : i ≤ n)

@@ -1,14 +1,15 @@
 -- The sets of all selections, row by row: an empty set adds nothing, whatever the rows below it pick.
-use Prim.Native.Nat.{ℕ, zero, suc, ◌+◌, ◌-◌, ◌≤◌, ◌<◌}
+use Prim.Native.Nat.{ℕ, suc, ◌+◌, ◌-◌, ◌≤◌, ◌<◌}
 use native.Mathlib.Omega.{arith}
 use native.Mathlib.Numerals.{add-one}
 use mathlib.Core.Path.{◌≡◌, refl, sym, ap, fun_ext, ◌∙◌}
+use mathlib.Core.Bool.{false}
 use mathlib.Core.List.{List, [], ◌∷◌, ◌++◌, map, map-append, map-map, flat_map, foldl, foldl-append}
 use mathlib.Core.Option.{Option, none, some}
 use lib.ListN.{length}
 use lib.Seq.{get_or_at}
 use Rattle.model.specs.Matrix.{Matrix, Constraint, constrain}
-use Rattle.model.specs.Network.{Time, is_time}
+use Rattle.model.specs.Network.{Time, blank, secs, time, is_time}
 use Rattle.model.specs.Search.{columns, selections, row_constraints, rows_constraints, keep}
 use Rattle.model.specs.Lists.{Every, done, both}
 use Rattle.model.specs.Conditions.{Column, Selection, choose}
@@ -16,7 +17,7 @@ use Rattle.model.proofs.Listed.{every_map}
 use Rattle.model.proofs.Selections.{selections_sound}
 use Rattle.zones.specs.Inner.{choice}
 use Rattle.ahead.specs.Outlook.{Lost}
-use Rattle.lists.specs.Selecting.{extensions, Passed}
+use Rattle.lists.specs.Selecting.{extensions}
 use Rattle.lists.specs.Inner.{column_sets}
 
 -- ---- no set is left of an empty one, and nothing is kept of it
@@ -36,6 +37,11 @@ map_flat_map f g [] = refl
 map_flat_map f g (x ∷ xs) = map-append f (g x) (flat_map g xs) ∙ ap (λ (l : List _). map f (g x) ++ l) (map_flat_map f g xs)
 
 -- ---- the columns of a row from column s on
+blank_there : (t : Time) → is_time t ≡ false → t ≡ blank
+unfolding is_time
+blank_there blank e = refl
+blank_there (secs v) e = cc
+
 module _ (n : ℕ) (a : List Time) (i : ℕ) where
   abbrev pub columns_from : ℕ → List ℕ
   columns_from s = columns n a i (suc n - s) s
@@ -50,16 +56,12 @@ module _ (n : ℕ) (a : List Time) (i : ℕ) where
   unfolding columns
   columns_end s h = let z : suc n - s ≡ 0 = omega arith in rw z
 
-  -- blank ones are passed over
-  pub columns_past : {s r : ℕ} → Passed n a i s r → columns_from s ≡ columns_from r
+  -- a blank one is passed over
+  pub columns_past : (s : ℕ) → s ≤ n → is_time (time n a i s) ≡ false → columns_from s ≡ columns_from (s + 1)
   unfolding columns is_time
-  columns_past {s} {r} c = go (r - s) s (omega (arith, c.from)) (omega arith)
-    where
-      go : (k t : ℕ) → t + k ≡ r → s ≤ t → columns_from t ≡ columns_from r
-      go zero t e h = let p : t ≡ r = omega arith in rw p
-      go (suc k) t e h =
-          let z : suc n - t ≡ suc (suc n - suc t) = omega (arith, c.to) in
-          rw (z, c.blank t h (omega arith)) (go k (suc t) (omega arith) (omega arith))
+  columns_past s h e =
+      let z : suc n - s ≡ suc (suc n - suc s) = omega arith in
+      rw (z, blank_there (time n a i s) e, add-one s) refl
 
 -- ---- the sets by the column of row i
 module _ (n : ℕ) (a : List Time) (d : Matrix) where

@@ -3,17 +3,17 @@ use Prim.Native.Nat.{ℕ, ◌+◌, ◌*◌, ◌-◌, ◌≤◌}
 use native.Mathlib.Omega.{arith}
 use native.Mathlib.Nat.{zero-mul, zero-add, add-sub_cancel_left}
 use mathlib.Core.Path.{◌≡◌, sym, ap, ◌∙◌}
-use mathlib.Core.List.{List, ◌++◌, append-nil}
+use mathlib.Core.List.{List, ◌++◌}
 use lib.IntN.{ℤ}
-use lib.ListN.{length, take, drop, length-drop, drop_of_length-le}
-use lib.Seq.{length-take-le, length_front, take_all, take_at, drop_at, drop-drop, paste}
+use lib.ListN.{length, take, drop, length-drop}
+use lib.Seq.{length-take-le, length_front, take_at, drop_at, drop-drop}
 use Rattle.model.specs.Sizes.{zone_size}
 use Rattle.model.specs.Conditions.{Departures}
 use Rattle.memory.specs.Numbers.{bounds_in}
 use Rattle.memory.specs.Conditions.{ZoneIn}
 use Rattle.memory.specs.Side.{numbers_at, Elsewhere}
 use Rattle.lists.specs.Lists.{zone_at}
-use Rattle.memory.proofs.Side.{length_numbers}
+use Rattle.memory.proofs.Side.{length_numbers, else_trans}
 
 module _ (size : ℕ) (list : List ℤ) (inside : size ≤ length list) where
   pub front_long : length (take size list) ≡ size
@@ -37,6 +37,12 @@ module _ (size : ℕ) (list : List ℤ) (inside : size ≤ length list) where
     unfolding zone_at
     front_at = rw zero-mul (ap bounds_in front_is)
 
+-- given back twice
+pub front_twice : (size : ℕ) (list : List ℤ) → size ≤ length list → (all : List ℤ) → length all ≡ length (take size list)
+    → (out : List ℤ) → length out ≡ length (take size (all ++ drop size list)) → Elsewhere size 0 list (out ++ drop size (all ++ drop size list))
+front_twice size list inside all same out same' =
+    else_trans (front_else size list inside all same) (front_else size (all ++ drop size list) (front_room size list inside all same) out same')
+
 -- zone k of the list at base
 module _ (size base k : ℕ) (work : List ℤ) (there : base + k * size + size ≤ length work) where
   abbrev source : List ℤ
@@ -48,8 +54,7 @@ module _ (size base k : ℕ) (work : List ℤ) (there : base + k * size + size �
   pub source_long : length source ≡ size
   source_long = rw source_is (length_numbers size (drop base work) k (omega (arith, length-drop base work)))
 
-  -- stored where a zone was
-  pub loaded_is : (old : List ℤ) → length old ≡ size → paste old (0 * size) source size ≡ numbers_at size (drop base work) k
-  loaded_is old long =
-      let whole = take_all size source (omega (arith, source_long)) in
-      rw (zero-mul, zero-add, whole, drop_of_length-le old {i = size} (omega arith)) (append-nil source ∙ source_is)
+  -- loaded
+  pub loaded : (n : ℕ) {z : List ℤ} → size ≡ zone_size n → z ≡ source → bounds_in z ≡ zone_at (zone_size n) (drop base work) k
+  unfolding zone_at
+  loaded n is e = rw (← is) (ap bounds_in (e ∙ source_is))

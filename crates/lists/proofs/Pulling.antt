@@ -4,7 +4,6 @@ use native.Mathlib.Omega.{arith}
 use native.Mathlib.Nat.{mul-le-mul_right, suc-mul}
 use mathlib.Core.Path.{◌≡◌, refl, sym, ap, ◌∙◌}
 use mathlib.Core.Logic.{⊎_elim}
-use mathlib.Core.Bool.{true, false}
 use mathlib.Core.List.{List, [], ◌∷◌, ◌++◌, map, flat_map, foldl, foldl-append, append-nil}
 use mathlib.Core.Option.{Option}
 use lib.IntN.{ℤ}
@@ -18,7 +17,7 @@ use Rattle.model.specs.Search.{selections, preimage, keep, previous}
 use Rattle.model.proofs.Listed.{at_tabulate}
 use Rattle.model.proofs.Tabulated.{from, from_first, from_next, from_end}
 use Rattle.memory.specs.Numbers.{bounds_in, times_in}
-use Rattle.lists.specs.declared.Built.{Built}
+use Rattle.std.specs.Prelude as std
 use Rattle.lists.specs.Lists.{zone_at, list_in, ListRoom, ListHeld, Sources, Building}
 use Rattle.memory.proofs.Side.{part_of_lem}
 use Rattle.lists.proofs.Held.{held_list, held_room, held_since, held_still, held_as_is}
@@ -47,10 +46,9 @@ module _ (n : ℕ) (times : List ℤ) where
     listed = previous n (times_in times) (list_in (zone_size n) count at_source)
 
 -- the list is zs, with the preimages of zones 0 to k - 1; nothing but the half at goal has changed
-pub record Pulling (n capacity count source goal : ℕ) (times work₀ work : List ℤ) (built : Built) (k : ℕ) : Type 0 where
+pub record Pulling (n capacity count source goal : ℕ) (times work₀ work : List ℤ) (built k : ℕ) : Type 0 where
   pub zs : List Matrix
-  pub held : ListHeld (zone_size n) capacity zs built (drop goal work₀) (drop goal work)
-  pub more : built.full ≡ false
+  pub held : ListHeld (zone_size n) capacity zs (std.Some built) (drop goal work₀) (drop goal work)
   pub long : length work ≡ length work₀
   pub front : take goal work ≡ take goal work₀
   pub rest : listed n times count (drop source work₀) ≡ foldl keep zs (left n times count (drop source work₀) k)
@@ -59,25 +57,24 @@ module _ {n capacity count source goal : ℕ} {times work₀ : List ℤ} {seen :
   half_fits : goal + capacity * zone_size n ≤ length work₀
   half_fits = let l = b.halves.long in ⊎_elim (λ e. omega arith) (λ e. omega arith) b.halves.apart
 
-  pub pulling_start : Pulling n capacity count source goal times work₀ work₀ (record { count = 0; full = false }) 0
+  pub pulling_start : Pulling n capacity count source goal times work₀ work₀ 0 0
   unfolding previous list_in tabulate
   pulling_start = record {
     zs = [];
     held = held_as_is {size = zone_size n} {capacity = capacity} {count = 0} {list = drop goal work₀}
         (record { inside = omega arith; long = rw (length-drop goal work₀) (omega (arith, half_fits)) });
-    more = refl;
     long = refl;
     front = refl;
     rest = ap (λ (zs : List Matrix). foldl keep [] (flat_map (back_of n times) zs)) (from_first _ count 0 count (omega arith));
   }
 
-  module _ {work : List ℤ} {built : Built} {k : ℕ} (g : Pulling n capacity count source goal times work₀ work built k) where
+  module _ {work : List ℤ} {built k : ℕ} (g : Pulling n capacity count source goal times work₀ work built k) where
     -- the half at goal has room
     pub goal_fits : goal ≤ length work
     goal_fits = omega (arith, half_fits, g.long)
 
-    pub goal_room : ListRoom (zone_size n) capacity built.count (drop goal work)
-    goal_room = held_room g.held g.more (rw (length-drop goal work) (omega (arith, half_fits, g.long)))
+    pub goal_room : ListRoom (zone_size n) capacity built (drop goal work)
+    goal_room = held_room g.held (rw (length-drop goal work) (omega (arith, half_fits, g.long)))
 
     -- the half at source is as it was
     kept_source : take (capacity * zone_size n) (drop source work) ≡ take (capacity * zone_size n) (drop source work₀)
@@ -86,7 +83,8 @@ module _ {n capacity count source goal : ℕ} {times work₀ : List ℤ} {seen :
         (λ e. rw e.0 (ap (take (capacity * zone_size n)) (rw e.1 at g.held.beyond)))
         b.halves.apart
 
-    pub pulling_done : count ≤ k → ListHeld (zone_size n) capacity (listed n times count (drop source work₀)) built (drop goal work₀) (drop goal work)
+    pub pulling_done : count ≤ k
+        → ListHeld (zone_size n) capacity (listed n times count (drop source work₀)) (std.Some built) (drop goal work₀) (drop goal work)
     unfolding flat_map
     pulling_done h = rw (g.rest, from_end (zone_at (zone_size n) (drop source work₀)) count k h) g.held
 
@@ -120,10 +118,10 @@ module _ {n capacity count source goal : ℕ} {times work₀ : List ℤ} {seen :
           }
 
       -- zone k, pulled back
-      module _ (out : List ℤ) {built' : Built} (same : length out ≡ length (drop goal work))
+      module _ (out : List ℤ) {r : std.Option ℕ} (same : length out ≡ length (drop goal work))
           (held : ListHeld (zone_size n) capacity
-          (foldl keep (list_in (zone_size n) built.count (drop goal work)) (back_of n times (zone_at (zone_size n) (drop source work₀) k)))
-          built' (drop goal work) out) where
+          (foldl keep (list_in (zone_size n) built (drop goal work)) (back_of n times (zone_at (zone_size n) (drop source work₀) k)))
+          r (drop goal work) out) where
         -- the workspace then
         abbrev after : List ℤ
         after = take goal work ++ out
@@ -143,8 +141,8 @@ module _ {n capacity count source goal : ℕ} {times work₀ : List ℤ} {seen :
         abbrev zs' : List Matrix
         zs' = foldl keep g.zs (back_of n times (zone_at (zone_size n) (drop source work₀) k))
 
-        held_now : ListHeld (zone_size n) capacity zs' built' (drop goal work₀) (drop goal after)
-        held_now = rw goal_is (held_since (rw (held_list g.held g.more).1 at held) g.held.beyond)
+        held_now : ListHeld (zone_size n) capacity zs' r (drop goal work₀) (drop goal after)
+        held_now = rw goal_is (held_since (rw (held_list g.held).1 at held) g.held.beyond)
 
         rest_now : listed n times count (drop source work₀) ≡ foldl keep zs' (left n times count (drop source work₀) (k + 1))
         unfolding flat_map
@@ -152,9 +150,21 @@ module _ {n capacity count source goal : ℕ} {times work₀ : List ℤ} {seen :
             g.rest ∙ rw (from_next (zone_at (zone_size n) (drop source work₀)) count k inside)
             (foldl-append keep g.zs (back_of n times (zone_at (zone_size n) (drop source work₀) k)) _)
 
-        pub pulling_on : built'.full ≡ false → Pulling n capacity count source goal times work₀ after built' (k + 1)
-        pulling_on more = record { zs = zs'; held = held_now; more = more; long = long_is; front = front_is; rest = rest_now }
+      module _ (out : List ℤ) (same : length out ≡ length (drop goal work)) where
+        abbrev pulled : std.Option ℕ → Type 0
+        pulled r = ListHeld (zone_size n) capacity
+            (foldl keep (list_in (zone_size n) built (drop goal work)) (back_of n times (zone_at (zone_size n) (drop source work₀) k)))
+            r (drop goal work) out
 
-        pub pulling_full : built'.full ≡ true
-            → ListHeld (zone_size n) capacity (listed n times count (drop source work₀)) built' (drop goal work₀) (drop goal after)
-        pulling_full full = rw rest_now (held_still held_now full (left n times count (drop source work₀) (k + 1)))
+        pub pulling_on : {more : ℕ} → pulled (std.Some more) → Pulling n capacity count source goal times work₀ (take goal work ++ out) more (k + 1)
+        pulling_on held = record {
+          zs = zs' out same held;
+          held = held_now out same held;
+          long = long_is out same held;
+          front = front_is out same held;
+          rest = rest_now out same held;
+        }
+
+        pub pulling_full : pulled std.None
+            → ListHeld (zone_size n) capacity (listed n times count (drop source work₀)) std.None (drop goal work₀) (drop goal (take goal work ++ out))
+        pulling_full held = rw (rest_now out same held) (held_still (held_now out same held) (left n times count (drop source work₀) (k + 1)))

@@ -7,7 +7,7 @@ use mathlib.Core.Bool.{Bool, true, false, cond}
 use mathlib.Core.List.{List}
 use lib.IntN.{ℤ}
 use lib.Dec.{ltb}
-use lib.ListN.{length, take, drop, get_or, set}
+use lib.ListN.{take, drop, get_or, set, length-set}
 use lib.Seq.{take-take, take-set-le, get_or-take}
 use Rattle.model.specs.Sizes.{zone_size}
 use Rattle.memory.specs.Numbers.{bounds_in}
@@ -24,7 +24,7 @@ shorter {m} {k} l l' h e = sym (take-take m k l' h) ∙ ap (take m) e ∙ take-t
 module _ {n i : ℕ} where
   -- ---- nothing before row i has changed
   pub rows_same : {seen : List ℤ} {counts cols : List ℕ} → RowsFrom n i seen seen counts counts cols cols
-  rows_same = record { sets_same = refl; counts_same = refl; cols_same = refl }
+  rows_same = record { sets_same = refl; counts_same = refl; cols_same = refl; cols_long = refl }
 
   pub rows_then : {seen seen' seen'' : List ℤ} {counts counts' counts'' cols cols' cols'' : List ℕ}
       → RowsFrom n i seen seen' counts counts' cols cols' → RowsFrom n i seen' seen'' counts' counts'' cols' cols''
@@ -33,6 +33,7 @@ module _ {n i : ℕ} where
     sets_same = g.sets_same ∙ f.sets_same;
     counts_same = g.counts_same ∙ f.counts_same;
     cols_same = g.cols_same ∙ f.cols_same;
+    cols_long = g.cols_long ∙ f.cols_long;
   }
 
   pub rows_fewer : {j : ℕ} {seen seen' : List ℤ} {counts counts' cols cols' : List ℕ} → i ≤ j
@@ -41,21 +42,23 @@ module _ {n i : ℕ} where
     sets_same = shorter seen seen' (mul-le-mul_right (zone_size n) (mul-le-mul_right (places_met n) h)) f.sets_same;
     counts_same = shorter counts counts' h f.counts_same;
     cols_same = shorter cols cols' h f.cols_same;
+    cols_long = f.cols_long;
   }
 
   -- a set is built at a place of row i or behind it
   pub rows_placed : {k : ℕ} {seen seen' : List ℤ} {counts cols : List ℕ} → i * places_met n ≤ k → Elsewhere (zone_size n) k seen seen'
       → RowsFrom n i seen seen' counts counts cols cols
-  rows_placed {seen} {seen'} h e = record { sets_same = shorter seen seen' (mul-le-mul_right (zone_size n) h) e.front; counts_same = refl; cols_same = refl }
+  rows_placed {seen} {seen'} h e =
+      record { sets_same = shorter seen seen' (mul-le-mul_right (zone_size n) h) e.front; counts_same = refl; cols_same = refl; cols_long = refl }
 
   -- row i has a column
   pub rows_picked : {seen : List ℤ} {counts : List ℕ} (cols : List ℕ) (s : ℕ) → RowsFrom n i seen seen counts counts cols (set cols i s)
-  rows_picked cols s = record { sets_same = refl; counts_same = refl; cols_same = take-set-le i cols i s (omega arith) }
+  rows_picked cols s = record { sets_same = refl; counts_same = refl; cols_same = take-set-le i cols i s (omega arith); cols_long = length-set cols i s }
 
   -- a set is noted after it
   pub rows_noted : {seen : List ℤ} (counts : List ℕ) {cols : List ℕ} → RowsFrom n i seen seen counts (noted_in n counts i) cols cols
   unfolding noted_in
-  rows_noted counts = record { sets_same = refl; counts_same = go (ltb (get_or counts i 0) (sets_met n)); cols_same = refl }
+  rows_noted counts = record { sets_same = refl; counts_same = go (ltb (get_or counts i 0) (sets_met n)); cols_same = refl; cols_long = refl }
     where
       go : (b : Bool) → take i (cond b (set counts i (get_or counts i 0 + 1)) counts) ≡ take i counts
       go true = take-set-le i counts i (get_or counts i 0 + 1) (omega arith)
@@ -83,11 +86,11 @@ module _ {n i : ℕ} where
     parent_same few h = free_same few (i - 1) (omega arith)
 
     -- a selection under way is as it was
-    pub still_underway : {times zone : List ℤ} → Underway n times zone seen counts cols i → Tables n seen' counts' → length cols' ≡ length cols
+    pub still_underway : {times zone : List ℤ} → Underway n times zone seen counts cols i → Tables n seen' counts'
         → Underway n times zone seen' counts' cols' i
-    still_underway u t long = record {
+    still_underway u t = record {
       tables = t;
-      cols_size = long ∙ u.cols_size;
+      cols_size = f.cols_long ∙ u.cols_size;
       row = u.row;
       selecting = rw (parent_same u.tables.counted u.selecting.before.from_one, f.cols_same) u.selecting;
     }

@@ -15,7 +15,7 @@ use Rattle.model.specs.Network.{Time}
 use Rattle.model.specs.Search.{keep}
 use Rattle.memory.specs.Numbers.{bounds_in, times_in}
 use Rattle.memory.proofs.Leaving.{left_none, left_some}
-use Rattle.lists.specs.declared.Built.{Built}
+use Rattle.std.specs.Prelude as std
 use Rattle.lists.specs.Lists.{zone_at, list_in}
 use Rattle.starts.specs.Numbers as Starts
 use Rattle.zones.specs.Inner.{choice}
@@ -24,7 +24,7 @@ use Rattle.ahead.specs.Outlook.{Outlook}
 use Rattle.ahead.proofs.Needed.{lost_unfit, shut_barred}
 use Rattle.lists.specs.Selecting.{extensions, with_column, Selecting}
 use Rattle.lists.specs.Met.{free_at, met_in, unmet, noted_in, Covered, Noted}
-use Rattle.lists.specs.Inner.{PlacedAt, parent_in, Underway, left_of, column_sets, PutLast, RowsFrom, SelectReady, TakeReady, Selected, FitReady, ShutReady}
+use Rattle.lists.specs.Inner.{PlacedAt, parent_in, Underway, left_of, column_sets, PutLast, RowsFrom, SelectReady, TakeReady, Selected, ShutReady}
 use Rattle.lists.proofs.Held.{held_as_is}
 use Rattle.lists.proofs.Columns.{outlook, next_before, next_selecting}
 use Rattle.lists.proofs.Extensions.{extensions_end, nothing_kept, columns_none}
@@ -43,7 +43,7 @@ last_sets : (n : ℕ) (a : List Time) (d part : Matrix) (cols : List ℕ) (s : �
 unfolding column_sets
 last_sets n a d part cols s = extensions_end n a d (with_column n a d part cols n s) (cols ++ (s ∷ [])) (suc n) (omega arith)
 
-pub taken_last : {n capacity count : ℕ} {list times zone table seen : List ℤ} {counts cols : List ℕ} {s : ℕ} {r : Built} {list' seen' : List ℤ}
+pub taken_last : {n capacity count : ℕ} {list times zone table seen : List ℤ} {counts cols : List ℕ} {s : ℕ} {r : std.Option ℕ} {list' seen' : List ℤ}
     → TakeReady n capacity count list times zone table seen counts cols n s
     → PutLast n capacity count (left_of n times zone seen counts cols n s) list seen counts r list' seen' → length seen' ≡ length seen
     → Selected n capacity n times zone (taken n count list times zone seen counts cols n s) list seen counts cols r list' seen' counts cols
@@ -58,21 +58,9 @@ taken_last {n} {times} {zone} {seen} {counts} {cols} {s} t p long =
 -- ---- a column that does not fit
 module _ {n capacity count : ℕ} {list times zone table seen : List ℤ} {counts cols : List ℕ} {i s : ℕ}
     (t : TakeReady n capacity count list times zone table seen counts cols i s) where
-  pub fit_ready : FitReady n seen table times counts i s
-  fit_ready =
-      let u = t.select.ready in
-      record {
-        tables = u.tables;
-        times_held = u.selecting.backward.table;
-        table_held = t.select.tabled.inside;
-        row = u.row;
-        from_one = u.selecting.before.from_one;
-        column = t.column;
-      }
-
   pub taken_unfit : Unfit n (times_in times) (Starts.bounds_in table) (parent_in n seen counts i) (choice i s)
       → Selected n capacity i times zone (taken n count list times zone seen counts cols i s) list seen counts cols
-      (record { count = count; full = false }) list seen counts cols
+      (std.Some count) list seen counts cols
   taken_unfit unfit =
       let u = t.select.ready in
       let sel = u.selecting in
@@ -110,7 +98,7 @@ module _ {n capacity count : ℕ} {list times zone table seen : List ℤ} {count
       (λ q is. next_before u.selecting u.row t.column is) (left_none p.left e)
 
   pub taken_none : r ≡ false → Selected n capacity i times zone (taken n count list times zone seen counts cols i s) list seen counts cols
-      (record { count = count; full = false }) list seen' counts cols
+      (std.Some count) list seen' counts cols
   taken_none e = rw (adds_nothing e) (record { held = held_as_is t.select.room; noted = still_noted; rows = rows_before })
 
   -- the rows below go on from it
@@ -170,7 +158,7 @@ module _ {n capacity count : ℕ} {list times zone table seen : List ℤ} {count
 
     pub taken_shut : Barred n a (Starts.bounds_in table) (zone_at (zone_size n) seen' (free_at n counts i)) (take (suc i) cols') (suc i)
         → Selected n capacity i times zone (taken n count list times zone seen counts cols i s) list seen counts cols
-        (record { count = count; full = false }) list seen' counts cols'
+        (std.Some count) list seen' counts cols'
     unfolding column_sets
     taken_shut barred =
         let o : Outlook n a d (zone_at (zone_size n) seen' (free_at n counts i)) (take i cols ++ (s ∷ [])) (suc i)
@@ -184,7 +172,7 @@ module _ {n capacity count : ℕ} {list times zone table seen : List ℤ} {count
     covered : Covered n a d below (suc i) (zone_at (zone_size n) seen' (free_at n counts i))
     covered = rw (cols_more, here, add-one i) (covered_new n a d zs (next_before u.selecting u.row t.column left))
 
-    module _ {built : Built} {list'' seen'' : List ℤ} {counts'' cols'' : List ℕ}
+    module _ {built : std.Option ℕ} {list'' seen'' : List ℤ} {counts'' cols'' : List ℕ}
         (m : Selected n capacity (i + 1) times zone below list seen' counts cols' built list'' seen'' counts'' cols'') where
       rows_after : RowsFrom n i seen seen'' counts counts'' cols cols''
       rows_after = rows_then rows_before (rows_then (rows_picked cols s) (rows_fewer (omega arith) m.rows))

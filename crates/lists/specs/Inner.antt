@@ -1,5 +1,6 @@
 -- What the functions inside this crate require and ensure.
 use Rattle.std.specs.Prelude.{ℕ, suc, ◌+◌, ◌*◌, ◌-◌, ◌≤◌, ◌≡◌, Bool, List, [], ◌∷◌, ◌++◌, ℤ, length, take}
+use Rattle.std.specs.Prelude as std
 use Rattle.std.proofs.Math.Option.{Option}
 use Rattle.model.specs.Sizes.{most_departures, zone_size}
 use Rattle.model.specs.Matrix.{Matrix}
@@ -9,7 +10,6 @@ use Rattle.model.specs.Conditions.{Column, Cols}
 use Rattle.memory.specs.Numbers.{bounds_in, times_in}
 use Rattle.memory.specs.Conditions.{TableIn, ZoneIn}
 use Rattle.memory.specs.Matrices.{Left}
-use Rattle.lists.specs.declared.Built.{Built}
 use Rattle.memory.specs.Side.{Elsewhere}
 use Rattle.starts.specs.Numbers as Starts
 use Rattle.ahead.specs.Needs.{needs}
@@ -83,15 +83,16 @@ pub record PutReady (n capacity count : ℕ) (list times zone seen : List ℤ) (
   pub room : ListRoom (zone_size n) capacity count list
   pub column : ColumnReady n times zone seen counts cols n s
 
-pub record PutLast (n capacity count : ℕ) (o : Option Matrix) (list seen : List ℤ) (counts : List ℕ) (r : Built) (list' seen' : List ℤ) : Type 0 where
+pub record PutLast (n capacity count : ℕ) (o : Option Matrix) (list seen : List ℤ) (counts : List ℕ) (r : std.Option ℕ) (list' seen' : List ℤ) : Type 0 where
   pub held : ListHeld (zone_size n) capacity (keep (list_in (zone_size n) count list) o) r list list'
   pub elsewhere : Elsewhere (zone_size n) (free_at n counts n) seen seen'
 
--- nothing before row i has changed
+-- nothing before row i has changed, and there is a column for each row as before
 pub record RowsFrom (n i : ℕ) (seen seen' : List ℤ) (counts counts' cols cols' : List ℕ) : Type 0 where
   pub sets_same : take (i * places_met n * zone_size n) seen' ≡ take (i * places_met n * zone_size n) seen
   pub counts_same : take i counts' ≡ take i counts
   pub cols_same : take i cols' ≡ take i cols
+  pub cols_long : length cols' ≡ length cols
 
 -- the sets of all columns of row i can be put to the list, and of column s
 pub record SelectReady (n capacity count : ℕ) (list times zone table seen : List ℤ) (counts cols : List ℕ) (i : ℕ) : Type 0 where
@@ -105,7 +106,8 @@ pub record TakeReady (n capacity count : ℕ) (list times zone table seen : List
   pub column : Column n (times_in times) i s
 
 -- the list is zs then
-pub record Selected (n capacity i : ℕ) (times zone : List ℤ) (zs : List Matrix) (list seen : List ℤ) (counts cols : List ℕ) (r : Built) (list' seen' : List ℤ)
+pub record Selected (n capacity i : ℕ) (times zone : List ℤ) (zs : List Matrix) (list seen : List ℤ) (counts cols : List ℕ)
+    (r : std.Option ℕ) (list' seen' : List ℤ)
     (counts' cols' : List ℕ) : Type 0 where
   pub held : ListHeld (zone_size n) capacity zs r list list'
   pub noted : Noted n times zone zs seen' counts'

@@ -1,5 +1,6 @@
 -- Lists of zones in memory, and how a list that is made anew is handed back.
-use Rattle.std.specs.Prelude.{ℕ, suc, ◌+◌, ◌*◌, ◌≤◌, ◌<◌, ◌≡◌, ◌⊎◌, true, false, cond, List, [], ◌∷◌, ℤ, ltb, length, take, drop}
+use Rattle.std.specs.Prelude.{ℕ, suc, ◌+◌, ◌*◌, ◌≤◌, ◌<◌, ◌≡◌, ◌⊎◌, cond, List, [], ◌∷◌, ℤ, ltb, length, take, drop}
+use Rattle.std.specs.Prelude as std
 use Rattle.std.proofs.Math.Option.{Option, none, some}
 use Rattle.model.specs.Sizes.{few_departures, most_departures, most_numbers, zone_size, workspace_size}
 use Rattle.model.specs.Lists.{tabulate, Every}
@@ -13,9 +14,7 @@ use Rattle.memory.specs.Numbers.{bounds_in, times_in, Limit}
 use Rattle.memory.specs.Side.{numbers_at}
 use Rattle.memory.specs.Conditions.{TableIn, PatternIn}
 use Rattle.starts.specs.Numbers as Starts
-use Rattle.lists.specs.declared.Built.{Built}
-use Rattle.lists.specs.declared.Found.{Found}
-use Rattle.lists.specs.declared.Whole.{Whole}
+use Rattle.ints.specs.declared.Seconds.{Seconds}
 
 -- ---- the table of the sets met
 -- the departures of a small and of a middling network, at most; any other is large
@@ -56,12 +55,12 @@ pub record ListRoom (size capacity count : ℕ) (work : List ℤ) : Type 0 where
   pub inside : count ≤ capacity
   pub long : capacity * size ≤ length work
 
--- the list zs; where it is longer than the capacity, its first zones, as many as that, and that it is full. What lies beyond the
+-- the list zs, by its length; where it is longer than the capacity, its first zones, as many as that, and no length. What lies beyond the
 -- capacity's zones is not touched. Free: the numbers of the capacity's zones behind the list
-pub record ListHeld (size capacity : ℕ) (zs : List Matrix) (r : Built) (before after : List ℤ) : Type 0 where
+pub record ListHeld (size capacity : ℕ) (zs : List Matrix) (r : std.Option ℕ) (before after : List ℤ) : Type 0 where
   pub beyond : drop (capacity * size) after ≡ drop (capacity * size) before
-  pub fits : length zs ≤ capacity → (r ≡ record { count = length zs; full = false }) × (list_in size (length zs) after ≡ zs)
-  pub full : capacity < length zs → (r ≡ record { count = capacity; full = true }) × (list_in size capacity after ≡ take capacity zs)
+  pub fits : length zs ≤ capacity → (r ≡ std.Some (length zs)) × (list_in size (length zs) after ≡ zs)
+  pub full : capacity < length zs → (r ≡ std.None) × (list_in size capacity after ≡ take capacity zs)
 
 -- ---- the next list
 -- the zones of a list can be pulled back: no set on the way has a finite bound beyond Limit
@@ -84,7 +83,7 @@ pub record Building (n capacity source goal count : ℕ) (work times seen : List
   pub seen_size : size_seen n ≤ length seen
 
 -- the list made from the list at source. Free: what seen holds; its length is unchanged
-pub record NextList (n capacity source goal count : ℕ) (times work seen : List ℤ) (r : Built) (work' seen' : List ℤ) : Type 0 where
+pub record NextList (n capacity source goal count : ℕ) (times work seen : List ℤ) (r : std.Option ℕ) (work' seen' : List ℤ) : Type 0 where
   pub list : ListHeld (zone_size n) capacity (previous n (times_in times) (list_in (zone_size n) count (drop source work))) r (drop goal work) (drop goal work')
   pub front : take goal work' ≡ take goal work
   pub seen_size : length seen' ≡ length seen
@@ -118,9 +117,9 @@ pub record Meeting (n parts base count : ℕ) (work pattern : List ℤ) : Type 0
   pub long : base + count * zone_size n ≤ length work
 
 -- what is found of a list: nothing, or the start picked in c, in parts
-unfoldable pub found_by : ℕ → ℕ → Option Matrix → Found
-found_by n parts none = record { some = false; start = all_times [] }
-found_by n parts (some c) = record { some = true; start = all_times (start_in n parts c) }
+unfoldable pub found_by : ℕ → ℕ → Option Matrix → std.Option (List Seconds)
+found_by n parts none = std.None
+found_by n parts (some c) = std.Some (all_times (start_in n parts c))
 
 -- ---- the zone of a pattern in whole parts
 -- it can be made, and if there are times in it there are some in so many parts
@@ -134,9 +133,9 @@ pub record PatternWhole (n : ℕ) (pattern : List ℤ) (parts : ℕ) (r : List �
   pub zone : Matrix
   pub is : tighten (suc n) (pattern_constraints n (bounds_in pattern)) ≡ some zone
   pub whole : wholes (suc n) parts zone ≡ some (Starts.bounds_in (take (zone_size n) r))
+  pub long : length r ≡ most_numbers
 
--- by the answer. False: there are no times in the pattern, and what stands in the array is free
-pub record WholeOf (n : ℕ) (pattern : List ℤ) (parts : ℕ) (r : Whole) : Type 0 where
-  pub none_left : r.some ≡ false → tighten (suc n) (pattern_constraints n (bounds_in pattern)) ≡ none
-  pub some_left : r.some ≡ true → PatternWhole n pattern parts r.zone
-  pub long : length r.zone ≡ most_numbers
+-- by the answer. None: there are no times in the pattern
+abbrev pub WholeOf : ℕ → List ℤ → ℕ → std.Option (List ℤ) → Type 0
+WholeOf n pattern parts std.None = tighten (suc n) (pattern_constraints n (bounds_in pattern)) ≡ none
+WholeOf n pattern parts (std.Some r) = PatternWhole n pattern parts r

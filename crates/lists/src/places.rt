@@ -9,35 +9,18 @@ ghost use Rattle.memory.specs.Side.{numbers_at};
 ghost use Rattle.lists.specs.Lists.{zone_at};
 ghost use Rattle.lists.specs.Comparing.{Comparing, Other};
 
-// Two numbers in memory are equal.
-fn equal(a: i32, b: i32) -> bool
-    ensures { result ≡ same_z a b }
-{
-    a == b
-}
-
-// The first place at which zone k of the list is another than this one, or size.
-fn first_other(list: &[i32], k: usize, zone: &[i32], size: usize) -> usize
+// The first place at which zone k of the list is another than this one, if it is another.
+fn first_other(list: &[i32], k: usize, zone: &[i32], size: usize) -> Option<usize>
     requires { Comparing list.now k zone.now size }
     ensures { Other size list.now k zone.now result }
 {
     let base = k * size;
     for p in 0..size {
-        let a = zone[p];
-        let b = list[base + p];
-        if !equal(a, b) {
-            return p;
+        if zone[p] != list[base + p] {
+            return Some(p);
         }
     }
-    size
-}
-
-// Zone k of the list is this one.
-fn same(list: &[i32], k: usize, zone: &[i32], size: usize) -> bool
-    requires { (length zone.now ≡ size) × (k * size + size ≤ length list.now) }
-    ensures { result ≡ same_matrix (bounds_in zone.now) (zone_at size list.now k) }
-{
-    first_other(list, k, zone, size) == size
+    None
 }
 
 // Place p, if there is such a place, shows that zone k of the list is another than this one.
@@ -45,12 +28,7 @@ fn apart(list: &[i32], k: usize, zone: &[i32], size: usize, p: usize) -> bool
     requires { Comparing list.now k zone.now size }
     ensures { result ≡ true → same_matrix (bounds_in zone.now) (zone_at size list.now k) ≡ false }
 {
-    if size <= p {
-        return false;
-    }
-    let a = zone[p];
-    let b = list[k * size + p];
-    !equal(a, b)
+    p < size && zone[p] != list[k * size + p]
 }
 
 // Some zone of the list, from zone first on and before zone end, is this one. The last ones are looked at first: a set that is made again was
@@ -59,17 +37,15 @@ pub(crate) fn has(list: &[i32], first: usize, end: usize, zone: &[i32], size: us
     requires { (length zone.now ≡ size) × (first ≤ end) × (end * size ≤ length list.now) }
     ensures { result ≡ any_of (same_matrix (bounds_in zone.now)) (tabulate (end - first) first (zone_at size list.now)) }
 {
-    let mut k = end;
     let mut p = 0;
-    while first < k {
-        k -= 1;
+    for k in (first..end).rev() {
         if apart(list, k, zone, size, p) {
             continue;
         }
-        if same(list, k, zone, size) {
-            return true;
+        match first_other(list, k, zone, size) {
+            None => return true,
+            Some(other) => p = other,
         }
-        p = first_other(list, k, zone, size);
     }
     false
 }
@@ -90,10 +66,7 @@ pub(crate) fn store(list: &mut [i32], k: usize, zone: &[i32], size: usize)
     ensures { list.new ≡ paste list.old (k * size) zone.now size }
 {
     let base = k * size;
-    for p in 0..size {
-        let v = zone[p];
-        list[base + p] = v;
-    }
+    list[base..base + size].copy_from_slice(zone);
 }
 
 // The zone at one place, copied to a later place.
@@ -102,9 +75,5 @@ pub(crate) fn copy(list: &mut [i32], from: usize, to: usize, size: usize)
     ensures { list.new ≡ paste list.old (to * size) (numbers_at size list.old from) size }
 {
     let source = from * size;
-    let goal = to * size;
-    for p in 0..size {
-        let v = list[source + p];
-        list[goal + p] = v;
-    }
+    list.copy_within(source..source + size, to * size);
 }

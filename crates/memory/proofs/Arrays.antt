@@ -1,7 +1,7 @@
 -- A zone in the first numbers of an array, lent and given back.
 use Prim.Native.Nat.{ℕ, ◌≤◌}
 use native.Mathlib.Omega.{arith}
-use mathlib.Core.Path.{◌≡◌, ap, ◌∙◌}
+use mathlib.Core.Path.{◌≡◌, sym, ap, ◌∙◌}
 use mathlib.Core.List.{List, ◌++◌}
 use lib.IntN.{ℤ}
 use lib.ListN.{length, take, drop}
@@ -24,9 +24,9 @@ module _ {n size : ℕ} (d : Departures n) (is : size ≡ zone_size n) (part : L
   pub part_is : take size part ≡ take (zone_size n) part
   part_is = ap (λ (s : ℕ). take s part) is
 
-  module _ (out : List ℤ) (same : length out ≡ length (take size part)) where
+  module _ (out : List ℤ) (same : length out ≡ size) where
     pub back_is : take (zone_size n) (out ++ drop size part) ≡ out
-    back_is = rw (← is) (take_at out (drop size part) size (same ∙ part_long))
+    back_is = rw (← is) (take_at out (drop size part) size same)
 
     pub back_long : length (out ++ drop size part) ≡ most_numbers
-    back_long = length_front part out size same ∙ long
+    back_long = length_front part out size (same ∙ sym part_long) ∙ long

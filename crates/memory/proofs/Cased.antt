@@ -11,7 +11,7 @@ use Rattle.model.specs.declared.Case.{Case}
 use Rattle.model.specs.declared.Limit.{Limit}
 use Rattle.model.specs.Sizes.{bound_limit, table_size, pattern_size, most_bounds}
 use Rattle.model.specs.Lists.{Every}
-use Rattle.model.specs.Faults.{network, case_fault, table_fault, patterns_fault, table_of, bound_of, stated}
+use Rattle.model.specs.Faults.{Entry, network, case_fault, table_fault, patterns_fault, table_of, bound_of, stated}
 use Rattle.model.specs.Conditions.{Departures, InLimit}
 use Rattle.model.proofs.Listed.{every_map}
 use Rattle.model.proofs.Limits.{wider_limit, no_fault, rows_in, case_limits}
@@ -20,7 +20,7 @@ use Rattle.memory.specs.Numbers.{bounds_in, times_in}
 use Rattle.memory.specs.Conditions.{TableIn, PatternIn}
 
 -- a pattern in memory
-abbrev pub PatternOf : ℕ → List Limit → List ℤ → Type 0
+abbrev pub PatternOf : ℕ → List (Entry Limit) → List ℤ → Type 0
 PatternOf n limits numbers = (bounds_in (take (pattern_size n) numbers) ≡ map bound_of (take (pattern_size n) limits)) × (length numbers ≡ most_bounds)
 
 -- a case in memory

@@ -38,10 +38,6 @@ module _ (m : ℕ) (d : Matrix) (i j : ℕ) (b : Bound) (hj : j < m) where
 pub row_kept : (n : ℕ) (d : Matrix) (f : ℕ → Bound) (i : ℕ) → ((l : ℕ) → l < suc n → entry (suc n) d i l ≡ f l) → RowFilled n d d f i (suc n)
 row_kept n d f i e = record { done = λ l h k. e l h; left = λ l h k. refl; others = λ k l h g ne. refl }
 
--- a row, from its first place on
-pub row_start : (n : ℕ) (d : Matrix) (f : ℕ → Bound) (i : ℕ) → RowFilled n d d f i 0
-row_start n d f i = record { done = λ l h k. absurd (omega arith); left = λ l h k. refl; others = λ k l h g ne. refl }
-
 pub row_step : {n : ℕ} {d₀ d : Matrix} {f : ℕ → Bound} {i j : ℕ} (b : Bound) → RowFilled n d₀ d f i j → length d ≡ zone_size n → i < suc n → j < suc n
     → b ≡ f j → RowFilled n d₀ (set d (i * suc n + j) b) f i (j + 1)
 row_step {n} {d} {f} {i} {j} b p size hi hj e = record {
@@ -60,9 +56,6 @@ row_step {n} {d} {f} {i} {j} b p size hi hj e = record {
 pub record Filled (n : ℕ) (d₀ d : Matrix) (f : ℕ → ℕ → Bound) (i : ℕ) : Type 0 where
   pub done : (k l : ℕ) → k < suc n → l < suc n → k < i → entry (suc n) d k l ≡ f k l
   pub left : (k l : ℕ) → k < suc n → l < suc n → i ≤ k → entry (suc n) d k l ≡ entry (suc n) d₀ k l
-
-pub rows_start : (n : ℕ) (d : Matrix) (f : ℕ → ℕ → Bound) → Filled n d d f 0
-rows_start n d f = record { done = λ k l g h r. absurd (omega arith); left = λ k l g h r. refl }
 
 -- one more row, g, which is row i of f
 pub rows_step : {n : ℕ} {d₀ d d' : Matrix} {f : ℕ → ℕ → Bound} {g : ℕ → Bound} {i : ℕ} → Filled n d₀ d f i → RowFilled n d d' g i (suc n)

@@ -3,8 +3,7 @@ use Prim.Native.Nat.{ℕ}
 use mathlib.Core.Path.{◌≡◌, refl, sym, ap}
 use mathlib.Core.List.{List, []}
 use mathlib.Core.Option.{Option, none, some}
-use mathlib.Core.Bool.{Bool, true, false, not}
-use borrow.Author.Tests.{not-true, not-false}
+use mathlib.Core.Bool.{Bool, true, false}
 use Rattle.ints.proofs.Integers.{impossible}
 use Rattle.model.specs.Matrix.{Matrix, Constraint}
 use Rattle.memory.specs.Matrices.{leaves, Left, gone, kept}
@@ -18,6 +17,11 @@ pub left_some : {o : Option Matrix} {b : Bool} {e : Matrix} → Left o b e → b
 left_some gone t = impossible cc
 left_some (kept h) t = ap some (sym h)
 
+-- where some times are left, they are those
+pub left_surely : {o : Option Matrix} {b : Bool} {e d : Matrix} → Left o b e → o ≡ some d → o ≡ some e
+left_surely gone s = impossible cc
+left_surely (kept h) s = ap some (sym h)
+
 -- and the other way round
 pub is_gone : {o : Option Matrix} {e : Matrix} → o ≡ none → Left o false e
 is_gone h = rw h gone
@@ -29,12 +33,12 @@ is_kept h = rw h (kept refl)
 module _ {n L : ℕ} {d₀ : Matrix} {ms : List Constraint} {d : Matrix} where
   module _ {js ks ls : List Constraint} (p : Parts js ks ls) (w : Toward n L d₀ ms d js) {r : Bool} {e : Matrix} (q : Left (leaves n d ks) r e) where
     -- the first part leaves no times
-    pub given_up : {e' : Matrix} → not r ≡ true → Left (leaves n d₀ ms) false e'
-    given_up t = is_gone (nothing_left p w (left_none q (not-true r t)))
+    pub given_up : {e' : Matrix} → r ≡ false → Left (leaves n d₀ ms) false e'
+    given_up f = is_gone (nothing_left p w (left_none q f))
 
     -- it leaves e, and the second part is to be taken in
-    pub onward : not r ≡ false → Toward n L d₀ ms e ls
-    onward f = onward_to p w (left_some q (not-false r f))
+    pub onward : r ≡ true → Toward n L d₀ ms e ls
+    onward t = onward_to p w (left_some q t)
 
   -- they are all that are to be taken in
   pub at_last : {ks : List Constraint} {r : Bool} {e : Matrix} → Toward n L d₀ ms d ks → Left (leaves n d ks) r e → Left (leaves n d₀ ms) r e

@@ -1,16 +1,20 @@
 -- One number in memory: one number stands for none, any other for a bound, or a time.
 use Prim.Native.Nat.{◌≤◌, ◌<◌}
 use mathlib.Core.Path.{◌≡◌, refl, sym, ap, ◌∙◌}
-use mathlib.Core.Bool.{Bool, true, false}
+use mathlib.Core.Bool.{Bool, true, false, not}
 use lib.IntN.{ℤ, pos, nat_abs}
 use mir.Syntax.{w32, w64}
 use mir.Val.{SFits, of_z, to_z}
 use mir.ValLaws.{to_z-of_z}
-use Rattle.ints.proofs.Integers.{up, dn, ints, range, fits, abs_ud, pos_ud}
+use Rattle.ints.proofs.Integers.{impossible, up, dn, ints, range, fits, abs_ud, pos_ud}
+use Rattle.model.specs.Bound as B
 use Rattle.model.specs.Bound.{same_z}
 use Rattle.model.specs.Network.{secs}
 use Rattle.model.proofs.Same.{same_z_true, same_z_refl}
-use Rattle.memory.specs.Numbers.{of_halves, none_in, bound_in, time_in, InMemory, Widest}
+use Rattle.std.proofs.Common.{Option, is_some, Some, None}
+use Rattle.memory.specs.declared.Halves.{Halves}
+use Rattle.memory.specs.declared.Number.{Number}
+use Rattle.memory.specs.Numbers.{as_bound, of_halves, none_in, bound_in, time_in, InMemory, Widest}
 
 -- ---- the test for the number that stands for none
 module _ (z : ℤ) where
@@ -47,5 +51,16 @@ module _ (z : ℤ) where
   pub small_read : SFits w32 z → nat_abs z ≤ InMemory
   small_read f = omega (ints, range f, abs_ud z)
 
+  pub widened : SFits w32 z → SFits w64 z
+  widened f = fits (omega (ints, range f))
+
   pub wide : nat_abs z ≤ Widest → SFits w64 z
   wide h = fits (omega (ints, abs_ud z))
+
+-- ---- a bound that was read
+pub blank_is : (r : Number) {t : Bool} → t ≡ true → is_some r.0 ≡ not t → as_bound r ≡ B.Bound.none
+blank_is r e s = go r.0 (s ∙ ap not e)
+  where
+    go : (o : Option Halves) → is_some o ≡ false → as_bound (record { 0 = o }) ≡ B.Bound.none
+    go None e = refl
+    go (Some c) e = impossible cc

@@ -6,7 +6,6 @@ use mathlib.Core.Path.{◌≡◌, refl, sym, ap, ◌∙◌}
 use mathlib.Core.Option.{Option, none, some}
 use mathlib.Core.Bool.{Bool, true, false}
 use mathlib.Core.List.{List}
-use lib.IntN.{ℤ}
 use lib.ListN.{length, set}
 use Rattle.ints.proofs.Integers.{impossible}
 use Rattle.model.specs.Sizes.{zone_size}
@@ -36,7 +35,7 @@ pub row_left : (n : ℕ) (d : Matrix) (i b : ℕ) → RowFilled n d d (across n 
 row_left n d i b = row_kept n d _ i (λ l h. sym (no_way _ _))
 
 -- and where the bound there is as tight as the way
-pub row_implied : {n L W : ℕ} {z : List ℤ} {d : Matrix} {i b : ℕ} {way : Bound} → Relaxable n L W z d i b way → LeB (entry (suc n) d i b) way
+pub row_implied : {X : Type 0} {n L W : ℕ} {z : List X} {d : Matrix} {i b : ℕ} {way : Bound} → Relaxable n L W z d i b way → LeB (entry (suc n) d i b) way
     → RowFilled n d d (across n d i b way) i (suc n)
 row_implied {n} {d} {i} r le = row_kept n d _ i (λ l h. sym (tighter_of_le (le_b_trans (r.closed l h) (plus_mono le (le_b_refl _)))))
 

@@ -1,25 +1,25 @@
 -- What is asked and promised of those who read and store numbers.
-use Rattle.std.specs.Prelude.{ℕ, suc, ◌+◌, ◌*◌, ◌≤◌, ◌<◌, ◌≡◌, List, ℤ, nat_abs, length}
-use Rattle.model.specs.declared.Slot.{Slot}
+use Rattle.std.specs.Prelude.{ℕ, suc, ◌+◌, ◌*◌, ◌≤◌, ◌<◌, ◌≡◌, List, nat_abs, length}
+use Rattle.ints.specs.declared.Seconds.{Seconds}
 use Rattle.model.specs.Sizes.{table_size, pattern_size, zone_size, most_times_at_once}
 use Rattle.model.specs.Bound.{Bound}
 use Rattle.model.specs.Network.{Time, secs_of}
-use Rattle.model.specs.Faults.{time_of}
+use Rattle.model.specs.Faults.{Entry, time_of}
 use Rattle.model.specs.Conditions.{Departures, Small}
 use Rattle.memory.specs.declared.Number.{Number}
 use Rattle.memory.specs.Numbers.{as_bound, InMemory}
 
 -- ---- a zone of n times beside the clock, few enough to be tightened at once
-pub record ZoneIn (n : ℕ) (z : List ℤ) : Type 0 where
+pub record ZoneIn {A : Type 0} (n : ℕ) (z : List A) : Type 0 where
   pub few : n ≤ most_times_at_once
   pub size : length z ≡ zone_size n
 
 -- ---- the table and a pattern of n departures
-pub record TableIn (n : ℕ) (times : List ℤ) : Type 0 where
+pub record TableIn {A : Type 0} (n : ℕ) (times : List A) : Type 0 where
   pub departures : Departures n
   pub size : length times ≡ table_size n
 
-pub record PatternIn (n : ℕ) (p : List ℤ) : Type 0 where
+pub record PatternIn {A : Type 0} (n : ℕ) (p : List A) : Type 0 where
   pub departures : Departures n
   pub size : length p ≡ pattern_size n
 
@@ -31,19 +31,19 @@ pub record PlaceOf (m i j r : ℕ) : Type 0 where
   pub few : r < zone_size most_times_at_once
 
 -- they have a place (i, j)
-pub record ZoneCell (n : ℕ) (z : List ℤ) (i j : ℕ) : Type 0 where
+pub record ZoneCell {A : Type 0} (n : ℕ) (z : List A) (i j : ℕ) : Type 0 where
   pub zone : ZoneIn n z
   pub row : i < suc n
   pub col : j < suc n
 
-pub record TimeCell (n : ℕ) (times : List ℤ) (i j : ℕ) : Type 0 where
+pub record TimeCell {A : Type 0} (n : ℕ) (times : List A) (i j : ℕ) : Type 0 where
   pub table : TableIn n times
   pub row_from : 1 ≤ i
   pub row_to : i ≤ n
   pub col_from : 1 ≤ j
   pub col_to : j ≤ n
 
-pub record PairCell (n : ℕ) (p : List ℤ) (i j : ℕ) : Type 0 where
+pub record PairCell {A : Type 0} (n : ℕ) (p : List A) (i j : ℕ) : Type 0 where
   pub pattern : PatternIn n p
   pub row : i < suc n
   pub col : j < suc n
@@ -57,10 +57,9 @@ pub record ReadWithin (S : ℕ) (b : Bound) (r : Number) : Type 0 where
 abbrev pub BoundRead : Bound → Number → Type 0
 BoundRead b r = ReadWithin InMemory b r
 
-pub record TimeWithin (S : ℕ) (t : Time) (r : Slot) : Type 0 where
+pub record TimeWithin (S : ℕ) (t : Time) (r : Entry Seconds) : Type 0 where
   pub is : time_of r ≡ t
-  pub value : r.value.0 ≡ secs_of t
   pub small : nat_abs (secs_of t) ≤ S
 
-abbrev pub TimeRead : Time → Slot → Type 0
+abbrev pub TimeRead : Time → Entry Seconds → Type 0
 TimeRead t r = TimeWithin InMemory t r

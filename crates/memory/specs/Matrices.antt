@@ -25,7 +25,7 @@ abbrev pub across : ℕ → Matrix → ℕ → ℕ → Bound → ℕ → Bound
 across n d i b way j = tighter (entry (suc n) d i j) (plus way (entry (suc n) d b j))
 
 -- row i can be made so: the way is at most W in size, and no bound to be stored passes L
-pub record Relaxable (n L W : ℕ) (z : List ℤ) (d : Matrix) (i b : ℕ) (way : Bound) : Type 0 where
+pub record Relaxable {A : Type 0} (n L W : ℕ) (z : List A) (d : Matrix) (i b : ℕ) (way : Bound) : Type 0 where
   pub zone : ZoneIn n z
   pub row : i < suc n
   pub base : b < suc n
@@ -63,6 +63,11 @@ limited a b c = record { row = a; col = b; limit = c } ∷ []
 pub record TakesOne (n L W : ℕ) (d : Matrix) (a b : ℕ) (c : Bound) : Type 0 where
   pub taking : Takes n L d (limited a b c)
   pub small : Small W c
+
+-- and that leaves some times
+pub record ConstrainReady (n L W : ℕ) (d : Matrix) (a b : ℕ) (c : Bound) : Type 0 where
+  pub one : TakesOne n L W d a b c
+  pub times : SomeLeft n d (limited a b c)
 
 -- ---- the start that is picked
 abbrev pub values : List Seconds → List ℤ

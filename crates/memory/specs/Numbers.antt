@@ -1,10 +1,10 @@
 -- Zones, patterns and the table in memory: 32-bit numbers, of which one stands for no bound, and for a blank. Any other is a bound in halves, or a time.
-use Rattle.std.specs.Prelude.{ℕ, ◌+◌, ◌/◌, ◌%◌, eqb, ℤ, pos, negsuc, neg_ℤ, List, map, cond}
+use lib.Dec.{leb→le}
+use Rattle.std.specs.Prelude.{Some, None, refl, ◌≡◌, ◌*◌, ◌≤◌, ℕ, ◌+◌, ◌/◌, ◌%◌, eqb, ℤ, pos, negsuc, neg_ℤ, List, map, cond}
 use Rattle.model.specs.Bound as B
 use Rattle.model.specs.Bound.{Bound, upto, same_z}
 use Rattle.model.specs.Network.{Time, blank, secs}
 use Rattle.memory.specs.declared.Number.{Number}
-use Rattle.memory.specs.declared.Number.TheVariants.{Blank, Upto}
 
 -- the bound with these halves: at most b for 2b, less than b for 2b - 1
 unfoldable pub of_halves : ℤ → Bound
@@ -31,8 +31,7 @@ times_in a = map time_in a
 
 -- a bound that was read
 abbrev pub as_bound : Number → Bound
-as_bound Blank = B.Bound.none
-as_bound (Upto c) = of_halves c.0
+as_bound r = elim r.0 [ Some c ↦ of_halves c.0 | None ↦ B.Bound.none ]
 
 -- the most that a stored bound is in size: twice that is less than none_in
 abbrev pub Limit : ℕ
@@ -45,3 +44,15 @@ InMemory = 2147483648
 -- the most that a bound is in size if its halves fit an i64
 abbrev pub Widest : ℕ
 Widest = 4611686018427387903
+
+-- ---- of many numbers one by one
+pub bounds_mapped : (z : List ℤ) → bounds_in z ≡ map bound_in z
+unfolding bounds_in
+bounds_mapped z = refl
+
+pub times_mapped : (a : List ℤ) → times_in a ≡ map time_in a
+unfolding times_in
+times_mapped a = refl
+
+pub narrow_room : (2 ≤ InMemory) × (5 * InMemory ≤ Widest)
+narrow_room = (leb→le 2 InMemory tt, leb→le (5 * InMemory) Widest tt)

@@ -1,28 +1,37 @@
 // Numbers in memory: the bounds of zones and of patterns, and the times of the table.
 #![tactic(auto)]
 
-ghost use Rattle.std.specs.Prelude.{◌≡◌, true, ◌||◌, map, suc, ◌+◌, ◌*◌, ◌≤◌, ◌<◌, pos, ◌-ℤ◌, nat_abs, length, set, take};
-ghost use Rattle.std.specs.Int.Signed.{le_z, lt_z};
+ghost use Rattle.std.specs.Prelude.{◌≡◌, ℕ, List, true, ◌||◌, map, suc, ◌+◌, ◌*◌, ◌≤◌, ◌<◌, pos, ◌-ℤ◌, nat_abs, length, set, take};
+ghost use Rattle.std.specs.Int.Signed.{lt_z};
 ghost use Rattle.model.specs.Sizes.{most_departures, bound_limit, table_size, pattern_size, zone_size, most_bounds, most_times_at_once};
 ghost use Rattle.model.specs.Lists.{Every};
-ghost use Rattle.model.specs.Bound.{upto, most, LeB, plus, tighter, negative};
+ghost use Rattle.model.specs.Bound.{Bound, upto, most, LeB, plus, tighter, negative};
 ghost use Rattle.model.specs.Matrix.{entry, diagonal};
 ghost use Rattle.model.specs.Pattern.{pair_bound, only_differences};
-ghost use Rattle.model.specs.Network.{time};
+ghost use Rattle.model.specs.Network.{Time, time, is_time};
 ghost use Rattle.model.specs.Search.{slack};
 ghost use Rattle.model.specs.Faults.{time_of, bound_of, stated};
 ghost use Rattle.model.specs.Conditions.{Small, InLimit};
-ghost use Rattle.memory.specs.Numbers.{of_halves, bound_in, time_in, bounds_in, times_in, as_bound, Limit, Widest};
-ghost use Rattle.memory.specs.Conditions.{PatternIn, BoundRead, TimeRead, PlaceOf, ZoneCell, PairCell, TimeCell};
+ghost use Rattle.memory.specs.Numbers.{of_halves, bound_in, time_in, bounds_in, times_in, as_bound, InMemory, Limit, Widest};
+ghost use Rattle.memory.specs.Numbers.{bounds_mapped, times_mapped, narrow_room};
+ghost use Rattle.memory.specs.Wide as Wide;
+ghost use Rattle.memory.specs.Conditions.{PatternIn, ReadWithin, TimeWithin, PlaceOf, ZoneCell, PairCell, TimeCell};
 
 use ints::Seconds;
-use model::{BOUNDS, NOTHING, Slot};
+use model::{BOUNDS, Limit};
+use std::ops::Add;
 
 // Stands for no bound, and for a blank.
 pub const NONE: i32 = 2147483647;
 
+// The most that a number of 64 bits is in size if it is a bound in halves, or a time.
+const LARGEST: u64 = 1000000000000000;
+
+// Stands for no bound, and for a blank, in 64 bits.
+pub const WIDE_NONE: i64 = 1000000000000001;
+
 // A bound in halves: 2b stands for at most b, and 2b - 1 for less than b. The smaller number is the tighter bound.
-#[derive(Clone, Copy)]
+#[derive(Clone, Copy, PartialEq, Eq, PartialOrd, Ord)]
 pub struct Halves(pub i64);
 
 impl Halves {
@@ -36,20 +45,6 @@ impl Halves {
         Halves(value.0 + value.0)
     }
 
-    // A sum is strict if one part is: that of two odd numbers is one more, and odd too.
-    pub fn plus(self, other: Halves) -> Halves
-        requires { Small Widest (plus (of_halves self.0) (of_halves other.0)) }
-        ensures { of_halves result.0 ≡ plus (of_halves self.0) (of_halves other.0) }
-    {
-        Halves(self.0 + other.0 + (self.0 & other.0 & 1))
-    }
-
-    pub fn at_most(self, other: Halves) -> bool
-        ensures { result ≡ le_z self.0 other.0 }
-    {
-        self.0 <= other.0
-    }
-
     pub fn negative(self) -> bool
         ensures { result ≡ lt_z self.0 (pos 0) }
     {
@@ -57,33 +52,44 @@ impl Halves {
     }
 }
 
-// What a number in memory stands for as a bound.
-#[derive(Clone, Copy)]
-pub enum Number {
-    Blank,
-    Upto(Halves),
+impl Add for Halves {
+    type Output = Halves;
+
+    ghost can_add = { λ a b. Small Widest (plus (of_halves a.0) (of_halves b.0)) };
+
+    ghost add_gives = { λ a b sum. of_halves sum.0 ≡ plus (of_halves a.0) (of_halves b.0) };
+
+    // A sum is strict if one part is: that of two odd numbers is one more, and odd too.
+    fn add(self, other: Halves) -> Halves {
+        Halves(self.0 + other.0 + (self.0 & other.0 & 1))
+    }
 }
 
+// What a number in memory stands for as a bound.
+#[derive(Clone, Copy)]
+pub struct Number(pub Option<Halves>);
+
+pub const BLANK: Number = Number(None);
+
 impl Number {
-    pub fn read(raw: i32) -> Number
-        ensures { BoundRead (bound_in raw) result }
+    // At most value, or less than it.
+    pub fn upto(value: Seconds, strict: bool) -> Number
+        requires { nat_abs value.0 ≤ Widest }
+        ensures { as_bound result ≡ upto strict value.0 }
     {
-        if raw == NONE {
-            return Number::Blank;
-        }
-        Number::Upto(Halves(raw as i64))
+        Number(Some(Halves::of(value, strict)))
     }
 
     // A bound of a case.
-    fn of(limit: model::Limit) -> Number
+    #[tactic(auto, using(crate::proofs::Slots::in_limit), unfolding(model::specs::Faults::bound_of))]
+    fn of(limit: Option<Limit>) -> Number
         requires { InLimit bound_limit (stated limit) }
         ensures { as_bound result ≡ bound_of limit }
     {
-        if limit.has {
-            let value = limit.value;
-            return Number::Upto(Halves::of(value, limit.strict));
+        match limit {
+            Some(limit) => Number::upto(limit.value, limit.strict),
+            None => BLANK,
         }
-        Number::Blank
     }
 
     // At most a - b.
@@ -91,110 +97,204 @@ impl Number {
         requires { nat_abs (a.0 -ℤ b.0) ≤ Widest }
         ensures { as_bound result ≡ most (a.0 -ℤ b.0) }
     {
-        Number::Upto(Halves::of(a.minus(b), false))
+        Number::upto(a - b, false)
     }
 
     // The bound on x(j) - x(s) where the time t is added to x(j), c to x(s), and the second sum is not less.
-    pub fn slack(c: Seconds, t: Slot) -> Number
+    #[tactic(auto, using(model::proofs::Size::small_size), unfolding(model::specs::Search::slack, model::specs::Faults::time_of))]
+    pub fn slack(c: Seconds, t: Option<Seconds>) -> Number
         requires { Small Widest (slack c.0 (time_of t)) }
         ensures { as_bound result ≡ slack c.0 (time_of t) }
     {
-        if t.has {
-            let value = t.value;
-            return Number::difference(c, value);
-        }
-        Number::Blank
-    }
-
-    // The number in memory that stands for this one.
-    fn raw(self) -> i32
-        requires { Small Limit (as_bound self) }
-        ensures { bound_in result ≡ as_bound self }
-    {
-        match self {
-            Number::Blank => NONE,
-            Number::Upto(c) => c.0 as i32,
+        match t {
+            Some(t) => Number::difference(c, t),
+            None => BLANK,
         }
     }
 
-    pub fn plus(self, other: Number) -> Number
-        requires { Small Widest (plus (as_bound self) (as_bound other)) }
-        ensures { as_bound result ≡ plus (as_bound self) (as_bound other) }
-    {
-        let Number::Upto(a) = self else {
-            return Number::Blank;
-        };
-        let Number::Upto(b) = other else {
-            return Number::Blank;
-        };
-        Number::Upto(a.plus(b))
-    }
-
+    #[tactic(auto, using(crate::proofs::InHalves::tighter_halves, crate::proofs::InHalves::tighter_none), unfolding(model::specs::Bound::tighter))]
     pub fn tighter(self, other: Number) -> Number
         ensures { as_bound result ≡ tighter (as_bound self) (as_bound other) }
     {
-        let Number::Upto(a) = self else {
+        let Some(a) = self.0 else {
             return other;
         };
-        let Number::Upto(b) = other else {
+        let Some(b) = other.0 else {
             return self;
         };
-        if a.at_most(b) { self } else { other }
+        if a <= b { self } else { other }
     }
 
+    #[tactic(auto, using(crate::proofs::InHalves::negative_halves), unfolding(model::specs::Bound::negative))]
     pub fn negative(self) -> bool
         ensures { result ≡ negative (as_bound self) }
     {
-        match self {
-            Number::Blank => false,
-            Number::Upto(a) => a.negative(),
-        }
+        self.0.is_some_and(|a| a.negative())
     }
 
     // True only where all that keeps to this bound keeps to c.
+    #[tactic(auto, using(crate::proofs::InHalves::halves_le))]
     pub fn implies(self, c: Halves) -> bool
         ensures { result ≡ true → LeB (as_bound self) (of_halves c.0) }
     {
-        match self {
-            Number::Blank => false,
-            Number::Upto(a) => a.at_most(c),
+        self.0.is_some_and(|a| a <= c)
+    }
+}
+
+impl Add for Number {
+    type Output = Number;
+
+    ghost can_add = { λ a b. Small Widest (plus (as_bound a) (as_bound b)) };
+
+    ghost add_gives = { λ a b sum. as_bound sum ≡ plus (as_bound a) (as_bound b) };
+
+    #[tactic(auto, using(crate::proofs::InHalves::plus_blank), unfolding(model::specs::Bound::plus))]
+    fn add(self, other: Number) -> Number {
+        let (Some(a), Some(b)) = (self.0, other.0) else {
+            return BLANK;
+        };
+        Number(Some(a + b))
+    }
+}
+
+// A number in memory, of 32 or of 64 bits.
+pub trait Stored: Copy {
+    // What it stands for as a bound and as a time, and so do many.
+    ghost bound_in: { Self → Bound };
+
+    ghost time_in: { Self → Time };
+
+    ghost bounds_in: { List Self → List Bound };
+
+    ghost times_in: { List Self → List Time };
+
+    // The most that a number which was read is in size, and a bound that is stored.
+    ghost largest: { ℕ };
+
+    ghost limit: { ℕ };
+
+    fn bound(self) -> Number
+        ensures { ReadWithin largest (bound_in self) result };
+
+    fn time(self) -> Option<Seconds>
+        ensures { TimeWithin largest (time_in self) result };
+
+    // The number that stands for a bound.
+    fn of_bound(bound: Number) -> Self
+        requires { Small limit (as_bound bound) }
+        ensures { bound_in result ≡ as_bound bound };
+
+    ghost bounds_are: { (numbers : List Self) → bounds_in numbers ≡ map bound_in numbers };
+
+    ghost times_are: { (numbers : List Self) → times_in numbers ≡ map time_in numbers };
+
+    // A bound, and a limit of a bound and two times, can be added.
+    ghost room: { (2 ≤ largest) × (5 * largest ≤ Widest) };
+}
+
+// One number of 32 bits stands for no bound, and for a blank.
+impl Stored for i32 {
+    ghost bound_in = { bound_in };
+
+    ghost time_in = { time_in };
+
+    ghost bounds_in = { bounds_in };
+
+    ghost times_in = { times_in };
+
+    ghost largest = { InMemory };
+
+    ghost limit = { Limit };
+
+    ghost bounds_are = { bounds_mapped };
+
+    ghost times_are = { times_mapped };
+
+    ghost room = { narrow_room };
+
+    fn bound(self) -> Number {
+        if self == NONE {
+            return BLANK;
+        }
+        Number(Some(Halves(self as i64)))
+    }
+
+    fn time(self) -> Option<Seconds> {
+        if self == NONE {
+            return None;
+        }
+        Some(Seconds::from(self))
+    }
+
+    fn of_bound(bound: Number) -> i32 {
+        match bound.0 {
+            None => NONE,
+            Some(c) => c.0 as i32,
         }
     }
 }
 
-// What a number in memory stands for as a time.
-fn time_of(raw: i32) -> Slot
-    ensures { TimeRead (time_in raw) result }
-{
-    if raw == NONE {
-        return NOTHING;
+// Each number of 64 bits that is large in size stands for no bound, and for a blank.
+impl Stored for i64 {
+    ghost bound_in = { Wide.bound_in };
+
+    ghost time_in = { Wide.time_in };
+
+    ghost bounds_in = { Wide.bounds_in };
+
+    ghost times_in = { Wide.times_in };
+
+    ghost largest = { Wide.Largest };
+
+    ghost limit = { Wide.Stored };
+
+    ghost bounds_are = { Wide.bounds_mapped };
+
+    ghost times_are = { Wide.times_mapped };
+
+    ghost room = { Wide.room };
+
+    fn bound(self) -> Number {
+        if Seconds(self).beyond(LARGEST) {
+            return BLANK;
+        }
+        Number(Some(Halves(self)))
     }
-    Slot {
-        has: true,
-        value: Seconds::of(raw),
+
+    fn time(self) -> Option<Seconds> {
+        if Seconds(self).beyond(LARGEST) {
+            return None;
+        }
+        Some(Seconds(self))
+    }
+
+    fn of_bound(bound: Number) -> i64 {
+        match bound.0 {
+            None => WIDE_NONE,
+            Some(c) => c.0,
+        }
     }
 }
 
 // The number in memory that stands for a time.
-fn raw_time(entry: Slot) -> i32
+fn raw_time(entry: Option<Seconds>) -> i32
     requires { InLimit bound_limit entry }
     ensures { time_in result ≡ time_of entry }
 {
-    if entry.has {
-        let value = entry.value;
-        return value.0 as i32;
-    }
-    NONE
+    let Some(time) = entry else {
+        return NONE;
+    };
+    time.0 as i32
 }
 
 // The bound on x(i) - x(j) where all times are allowed.
 pub fn diagonal(i: usize, j: usize) -> Number
-    ensures { (as_bound result ≡ diagonal i j) × Small Limit (as_bound result) }
+    ensures { (as_bound result ≡ diagonal i j) × Small 0 (as_bound result) }
 {
     if i == j {
-        Number::Upto(Halves(0))
+        Number(Some(Halves(0)))
     } else {
-        Number::Blank
+        BLANK
     }
 }
 
@@ -237,46 +337,47 @@ pub fn place(m: usize, i: usize, j: usize) -> usize
 }
 
 // The bound of a zone on x(i) - x(j).
-pub fn bound_at(zone: &[i32], n: usize, i: usize, j: usize) -> Number
+pub fn bound_at<T: Stored>(zone: &[T], n: usize, i: usize, j: usize) -> Number
     requires { ZoneCell n zone.now i j }
-    ensures { BoundRead (entry (suc n) (bounds_in zone.now) i j) result }
+    ensures { ReadWithin T.largest (entry (suc n) (T.bounds_in zone.now) i j) result }
 {
-    let k = place(n + 1, i, j);
-    let raw = zone[k];
-    Number::read(raw)
+    zone[place(n + 1, i, j)].bound()
 }
 
 // Stores a bound on x(i) - x(j).
-pub fn put(zone: &mut [i32], n: usize, i: usize, j: usize, b: Number)
-    requires { ZoneCell n zone.old i j × Small Limit (as_bound b) }
-    ensures { bounds_in zone.new ≡ set (bounds_in zone.old) (i * suc n + j) (as_bound b) }
+pub fn put<T: Stored>(zone: &mut [T], n: usize, i: usize, j: usize, b: Number)
+    requires { ZoneCell n zone.old i j × Small T.limit (as_bound b) }
+    ensures { T.bounds_in zone.new ≡ set (T.bounds_in zone.old) (i * suc n + j) (as_bound b) }
 {
-    let k = place(n + 1, i, j);
-    zone[k] = b.raw();
+    zone[place(n + 1, i, j)] = T::of_bound(b);
 }
 
 // A(i, j) of the table.
-pub fn time_at(times: &[i32], n: usize, i: usize, j: usize) -> Slot
+pub fn time_at<T: Stored>(times: &[T], n: usize, i: usize, j: usize) -> Option<Seconds>
     requires { TimeCell n times.now i j }
-    ensures { TimeRead (time n (times_in times.now) i j) result }
+    ensures { TimeWithin T.largest (time n (T.times_in times.now) i j) result }
 {
-    let k = place(n, i - 1, j - 1);
-    let raw = times[k];
-    time_of(raw)
+    times[place(n, i - 1, j - 1)].time()
+}
+
+// Column j of row i holds a time.
+pub fn holds_time<T: Stored>(times: &[T], n: usize, i: usize, j: usize) -> bool
+    requires { TimeCell n times.now i j }
+    ensures { result ≡ is_time (time n (T.times_in times.now) i j) }
+{
+    time_at(times, n, i, j).is_some()
 }
 
 // The bound of a pattern on x(i) - x(j).
-pub fn pair_bound(pattern: &[i32], n: usize, i: usize, j: usize) -> Number
+pub fn pair_bound<T: Stored>(pattern: &[T], n: usize, i: usize, j: usize) -> Number
     requires { PairCell n pattern.now i j }
-    ensures { BoundRead (pair_bound n (bounds_in pattern.now) i j) result }
+    ensures { ReadWithin T.largest (pair_bound n (T.bounds_in pattern.now) i j) result }
 {
     if i == j {
-        return Number::Blank;
+        return BLANK;
     }
     let column = if j < i { j } else { j - 1 };
-    let k = place(n, i, column);
-    let raw = pattern[k];
-    Number::read(raw)
+    pattern[place(n, i, column)].bound()
 }
 
 // No bound of the pattern names the clock.
@@ -284,17 +385,12 @@ pub fn only_differences(pattern: &[i32], n: usize) -> bool
     requires { PatternIn n pattern.now }
     ensures { result ≡ only_differences n (bounds_in pattern.now) }
 {
-    let mut j = 1;
-    while j <= n {
+    for j in 1..n + 1 {
         let from = pair_bound(pattern, n, 0, j);
         let to = pair_bound(pattern, n, j, 0);
-        if let Number::Upto(_) = from {
+        if from.0.is_some() || to.0.is_some() {
             return false;
         }
-        if let Number::Upto(_) = to {
-            return false;
-        }
-        j += 1;
     }
     true
 }
@@ -304,34 +400,29 @@ pub fn differences(start: &[i32], target: &[i32], n: usize) -> bool
     requires { PatternIn n start.now × PatternIn n target.now }
     ensures { result ≡ (only_differences n (bounds_in start.now) || only_differences n (bounds_in target.now)) }
 {
-    if only_differences(start, n) {
-        return true;
-    }
-    only_differences(target, n)
+    only_differences(start, n) || only_differences(target, n)
 }
 
 // The first count entries of the table of a case as numbers in memory; those beyond are free.
-pub fn times_in(slots: [Slot; BOUNDS], count: usize) -> [i32; BOUNDS]
+pub fn times_in(slots: [Option<Seconds>; BOUNDS], count: usize) -> [i32; BOUNDS]
     requires { (count ≤ most_bounds) × Every (InLimit bound_limit) (take count slots) }
     ensures { (times_in (take count result) ≡ map time_of (take count slots)) × (length result ≡ most_bounds) }
 {
     let mut memory = [0i32; BOUNDS];
-    for k in 0..count {
-        let entry = slots[k];
-        memory[k] = raw_time(entry);
+    for (k, entry) in slots[..count].iter().enumerate() {
+        memory[k] = raw_time(*entry);
     }
     memory
 }
 
 // The first size bounds of a pattern of a case, likewise.
-pub fn bounds_in(limits: [model::Limit; BOUNDS], size: usize) -> [i32; BOUNDS]
+pub fn bounds_in(limits: [Option<Limit>; BOUNDS], size: usize) -> [i32; BOUNDS]
     requires { (size ≤ most_bounds) × Every (λ e. InLimit bound_limit (stated e)) (take size limits) }
     ensures { (bounds_in (take size result) ≡ map bound_of (take size limits)) × (length result ≡ most_bounds) }
 {
     let mut memory = [0i32; BOUNDS];
-    for k in 0..size {
-        let limit = limits[k];
-        memory[k] = Number::of(limit).raw();
+    for (k, limit) in limits[..size].iter().enumerate() {
+        memory[k] = i32::of_bound(Number::of(*limit));
     }
     memory
 }

@@ -11,18 +11,19 @@ use lib.IntN.{ℤ}
 use lib.Arith.{digits_lt, digits_div, digits_mod}
 use lib.ListN.{length, take, drop, get_or, set, length-take, length-drop}
 use lib.Seq.{get_or-set_same, get_or-set_other, take-set-le, take-set-lt, drop-drop, drop-set-lt, drop-set-add}
+use Rattle.ints.proofs.Integers.{impossible}
 use Rattle.model.specs.Sizes.{most_departures, time_limit, table_size, most_times}
-use Rattle.model.specs.declared.Slot.{Slot}
+use Rattle.ints.specs.declared.Seconds.{Seconds}
 use Rattle.model.specs.declared.Case.{Case}
 use Rattle.model.specs.declared.Fault.{Fault}
 use Rattle.model.specs.declared.Fault.TheVariants as fault
-use Rattle.model.specs.declared.Judged.TheVariants as judged
-use Rattle.model.specs.declared.Committed.{Committed}
+use Rattle.std.specs.Prelude.{Ok, Err, None}
 use Rattle.model.specs.Lists.{when, or_else, Every, done, both}
 use Rattle.model.specs.Network.{time, regular}
-use Rattle.model.specs.Faults.{time_of, nothing, network, over, entry_fault, rows_fault, outside, table_fault, patterns_fault}
+use Rattle.model.specs.Faults.{Entry, time_of, network, over, entry_fault, rows_fault, outside, table_fault, patterns_fault}
 use Rattle.model.specs.Faults.{case_fault, room_fault, call_fault}
-use Rattle.model.specs.Changes.{time_place, changed, change_fault, preview, workspace_after_preview, PreviewIs, commit_fault, commit, PreviewDemands}
+use Rattle.model.specs.Changes.{time_place, changed, change_fault, preview, workspace_after_preview, PreviewIs, PreviewDemands}
+use Rattle.model.specs.Changes.{commit_fault, commit, case_after}
 use Rattle.model.specs.Conditions.{InLimit}
 use Rattle.model.proofs.Limits.{or_else_none, when_none, or_is_false, ltb_is_false, entry_fault_none, rows_fault_none, no_fault}
 use Rattle.model.proofs.Limits.{RowsInLimit, no_row, row, or_else_with_none}
@@ -31,7 +32,7 @@ use Rattle.model.proofs.DemandsHold.{demands}
 
 -- ---- the fault of one changed entry
 -- among entries within the limit
-entry_fault_set : (limit : ℕ) (f : ℕ → Fault) (p : ℕ) {es : List Slot} (k : ℕ) (e : Slot) → Every (InLimit limit) es → k < length es
+entry_fault_set : (limit : ℕ) (f : ℕ → Fault) (p : ℕ) {es : List (Entry Seconds)} (k : ℕ) (e : Entry Seconds) → Every (InLimit limit) es → k < length es
     → entry_fault (over limit f) p (set es k e) ≡ over limit f (p + k) e
 unfolding entry_fault over
 entry_fault_set limit f p k e done l = absurd (omega arith)
@@ -43,7 +44,7 @@ entry_fault_set limit f p (suc k) e (both h hs) l =
     rw (h, next) (entry_fault_set limit f (suc p) k e hs (omega arith))
 
 -- in row k, counted from 0, of rows within their limits
-rows_fault_set : {n r : ℕ} {es : List Slot} → RowsInLimit n r es → r * n ≤ length es → (p k j : ℕ) (e : Slot) → k < r → j < n
+rows_fault_set : {n r : ℕ} {es : List (Entry Seconds)} → RowsInLimit n r es → r * n ≤ length es → (p k j : ℕ) (e : Entry Seconds) → k < r → j < n
     → rows_fault n r p (set es (k * n + j) e) ≡
     or_else (over time_limit fault.Time (p + (k * n + j)) e)
     (when (not (regular (map time_of (take n (drop (k * n) (set es (k * n + j) e)))))) (fault.EmptyRow (p + k * n)))
@@ -87,19 +88,19 @@ module _ {c : Case} where
       (omega arith, omega arith)
 
 -- 4 at the changed entry, or 5 at the first entry of its row
-abbrev pub usual_fault : Case → ℕ → ℕ → Slot → Option Fault
+abbrev pub usual_fault : Case → ℕ → ℕ → Entry Seconds → Option Fault
 usual_fault c i j e =
     let first = (i - 1) * c.n in
     let row = map time_of (take c.n (drop first (changed c i j e).times)) in
     or_else (over time_limit fault.Time (time_place c.n i j) e) (when (not (regular row)) (fault.EmptyRow first))
 
 -- c' is c but for the time in row i and column j, which is that of e
-pub record OnlyThere (c : Case) (i j : ℕ) (e : Slot) (c' : Case) : Type 0 where
+pub record OnlyThere (c : Case) (i j : ℕ) (e : Entry Seconds) (c' : Case) : Type 0 where
   pub departures : c'.n ≡ c.n
   pub cycles : c'.horizon ≡ c.horizon
   pub start : c'.start ≡ c.start
   pub target : c'.target ≡ c.target
-  pub entries : (p : ℕ) (z : Slot) → p ≢ time_place c.n i j → get_or c'.times p z ≡ get_or c.times p z
+  pub entries : (p : ℕ) (z : Entry Seconds) → p ≢ time_place c.n i j → get_or c'.times p z ≡ get_or c.times p z
   pub there : time c.n (network c').times i j ≡ time_of e
   pub elsewhere : (k l : ℕ) → Inside c k l → ((k ≡ i) × (l ≡ j) → ⊥) → time c.n (network c').times k l ≡ time c.n (network c).times k l
 
@@ -121,7 +122,7 @@ module _ (c : Case) (i j : ℕ) where
       let few : c.n ≤ most_departures = omega arith in
       omega (arith, place_in here, mul-le-mul few few)
 
-  module _ (e : Slot) (own : case_fault c ≡ none) (here : Inside c i j) where
+  module _ (e : Entry Seconds) (own : case_fault c ≡ none) (here : Inside c i j) where
     -- the preview is the verdict on the copy
     pub preview_is : PreviewIs c i j e (changed c i j e)
     unfolding preview workspace_after_preview
@@ -162,18 +163,18 @@ module _ (c : Case) (i j : ℕ) where
             start = refl;
             target = refl;
             entries = λ p z other. get_or-set_other c.times at p e z other;
-            there = get_d_times (table_size c.n) (set c.times at e) at in_table ∙ ap time_of (get_or-set_same c.times at e nothing (omega arith));
+            there = get_d_times (table_size c.n) (set c.times at e) at in_table ∙ ap time_of (get_or-set_same c.times at e None (omega arith));
             elsewhere = λ k l inside other.
                 let p = time_place c.n k l in
                 let apart : p ≢ at = λ same. other (places_once inside here same) in
                 let in_table = place_in inside in
                 get_d_times (table_size c.n) _ p in_table
-                ∙ ap time_of (get_or-set_other c.times at p e nothing apart)
+                ∙ ap time_of (get_or-set_other c.times at p e None apart)
                 ∙ sym (get_d_times (table_size c.n) c.times p in_table);
           }
 
   -- the demands hold of a preview
-  pub preview_demands : (e : Slot) (capacity : ℕ) (work : List ℤ)
+  pub preview_demands : (e : Entry Seconds) (capacity : ℕ) (work : List ℤ)
       → PreviewDemands c i j e capacity work (preview c i j e capacity (length work)) (workspace_after_preview c i j e capacity work)
   unfolding preview workspace_after_preview
   preview_demands e capacity work = record {
@@ -185,43 +186,41 @@ module _ (c : Case) (i j : ℕ) where
   }
 
   -- ---- a commit, by its first fault
-  module _ (e : Slot) where
-    pub committed : commit_fault c i j e ≡ none → commit c i j e ≡ record { judged = judged.Accepted; case = changed c i j e }
+  module _ (e : Entry Seconds) where
+    pub committed : commit_fault c i j e ≡ none → commit c i j e ≡ Ok (changed c i j e)
     unfolding commit
     committed clean = rw (clean, commit)
 
-    pub kept : {f : Fault} → commit_fault c i j e ≡ some f → commit c i j e ≡ record { judged = judged.Refused f; case = c }
+    pub kept : {f : Fault} → commit_fault c i j e ≡ some f → commit c i j e ≡ Err f
     unfolding commit
     kept found = rw (found, commit)
 
-    by_fault : (P : Committed → Type 0)
-        → ((f : Fault) → P (record { judged = judged.Refused f; case = c }))
-        → (commit_fault c i j e ≡ none → P (record { judged = judged.Accepted; case = changed c i j e })) → P (commit c i j e)
-    by_fault P refused accepted = go (commit_fault c i j e) refl
-      where
-        go : (o : Option Fault) → commit_fault c i j e ≡ o → P (commit c i j e)
-        go (some f) q = rw (kept q) (refused f)
-        go none q = rw (committed q) (accepted q)
+    -- refused, it leaves the case given; accepted, the case handed back stands in its place
+    pub refused_keeps : (f : Fault) → commit c i j e ≡ Err f → case_after c i j e ≡ c
+    unfolding case_after
+    refused_keeps f h = rw (h, case_after)
 
-    -- refused, it hands back the case given
-    pub refused_keeps : (f : Fault) → (commit c i j e).judged ≡ judged.Refused f → (commit c i j e).case ≡ c
-    refused_keeps f = by_fault (λ r. r.judged ≡ judged.Refused f → r.case ≡ c) (λ g h. refl) (λ clean h. cc)
+    pub accepted_stands : (c' : Case) → commit c i j e ≡ Ok c' → case_after c i j e ≡ c'
+    unfolding case_after
+    accepted_stands c' h = rw (h, case_after)
 
     -- accepted, it hands back the copy, and no fault was met
-    pub accepted_changes : (commit c i j e).judged ≡ judged.Accepted
-        → (change_fault c i j ≡ none) × (case_fault (changed c i j e) ≡ none) × ((commit c i j e).case ≡ changed c i j e)
+    pub accepted_changes : (c' : Case) → commit c i j e ≡ Ok c'
+        → (change_fault c i j ≡ none) × (case_fault (changed c i j e) ≡ none) × (c' ≡ changed c i j e)
     unfolding commit_fault
-    accepted_changes =
-        by_fault
-        (λ r. r.judged ≡ judged.Accepted → (change_fault c i j ≡ none) × (case_fault (changed c i j e) ≡ none) × (r.case ≡ changed c i j e))
-        (λ f h. (cc, cc, cc))
-        (λ clean h. let (before, after) = (or_else_none (change_fault c i j) (case_fault (changed c i j e))).0 clean in (before, after, refl))
+    accepted_changes c' h = go (commit_fault c i j e) refl
+      where
+        go : (o : Option Fault) → commit_fault c i j e ≡ o → (change_fault c i j ≡ none) × (case_fault (changed c i j e) ≡ none) × (c' ≡ changed c i j e)
+        go (some f) q = let k = kept q in impossible cc
+        go none q =
+            let (before, after) = (or_else_none (change_fault c i j) (case_fault (changed c i j e))).0 q in
+            let is = committed q in
+            (before, after, cc)
 
     -- what the preview said is the verdict on what was committed, which has none of the faults 2 to 6
-    pub commit_preview : (c' : Case) → commit c i j e ≡ record { judged = judged.Accepted; case = c' }
+    pub commit_preview : (c' : Case) → commit c i j e ≡ Ok c'
         → (case_fault c' ≡ none) × PreviewIs c i j e c'
     commit_preview c' h =
-        let (before, after, copy) = accepted_changes (ap (λ (r : Committed). r.judged) h) in
+        let (before, after, copy) = accepted_changes c' h in
         let (own, here) = no_change_fault.0 before in
-        let same : changed c i j e ≡ c' = sym copy ∙ ap (λ (r : Committed). r.case) h in
-        rw (← same) (after, preview_is e own here)
+        rw copy (after, preview_is e own here)

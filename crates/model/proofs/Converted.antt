@@ -14,18 +14,17 @@ use lib.Seq.{take_at}
 use borrow.Author.Tests.{ltb-true, ltb-false, lt-ltb}
 use Rattle.ints.proofs.Integers.{impossible}
 use Rattle.model.specs.Sizes.{pattern_size, wide_lead, wide_mark, horizon_width, bound_width}
-use Rattle.model.specs.declared.Slot.{Slot}
+use Rattle.ints.specs.declared.Seconds.{Seconds}
 use Rattle.model.specs.declared.Limit.{Limit}
 use Rattle.model.specs.declared.Case.{Case}
 use Rattle.model.specs.declared.Form.{Form}
 use Rattle.model.specs.declared.Fault.{Fault}
 use Rattle.model.specs.declared.Fault.TheVariants as fault
-use Rattle.model.specs.declared.Written.{Written}
-use Rattle.model.specs.declared.Written.TheVariants as written
+use Rattle.std.specs.Prelude.{Result, Ok, Err, Some, None}
 use Rattle.model.specs.Forms.{old, wide, most_in, markless}
 use Rattle.model.specs.Lists.{tabulate, when, or_else, Every, both}
 use Rattle.model.specs.Conditions.{Departures, BoundIn}
-use Rattle.model.specs.Faults.{mark_fault, fault_along, form_fault, patterns_fault, outside}
+use Rattle.model.specs.Faults.{Entry, marked, mark_fault, fault_along, form_fault, patterns_fault, outside}
 use Rattle.model.specs.Packed.{Reading, got, refused, bit_at, bound_kind, case_of, body, parse_as, parse, entries, rows, fill, bits}
 use Rattle.model.specs.Answers.{answer, answer_packed, workspace_after, workspace_after_packed}
 use Rattle.model.specs.Writing.{field_bits, entry_bits, entries_bits, table_bits, all_bounds, case_bits, packed_as, tidied, Whole, room_for, told, output_after}
@@ -38,13 +37,12 @@ use Rattle.model.proofs.Parsed.{Agreed, old_form, wide_form, agreed_limits, pars
 use Rattle.model.proofs.Spelled.{Spells, bit, ends, split, length_field}
 use Rattle.model.proofs.Complement.{bound_lawful}
 use Rattle.model.proofs.RoundTrip.{parse_spells}
-use Rattle.model.proofs.Same.{and_true}
 use Rattle.model.proofs.Writer.{bytes_small, reproduces, restores, form_known, older_refuses, wide_refuses}
 
 -- ---- which cases convert
 -- the form has a place for its mark, if it has one
-abbrev pub Markable : Form → Limit → Type 0
-Markable f e = (markless f && (e.has && e.strict)) ≡ false
+abbrev pub Markable : Form → Entry Limit → Type 0
+Markable f e = (markless f && marked e) ≡ false
 
 -- nothing is lost exactly if the form has a place for n and for every mark
 pub loss_is : (from to : Form) (c : Case) → (loss_fault from to c ≡ none) ↔ ((c.n ≤ most_in to) × Every (Markable to) (all_bounds c))
@@ -68,10 +66,10 @@ loss_exactly from to c h =
           (loss_is from to c).1 (others.1.0, every_append (marks others.1.1.1.0) (marks others.1.1.1.1)),
     )
   where
-    join : {es : List Limit} → Every (BoundIn from) es → Every (Markable to) es → Every (BoundIn to) es
+    join : {es : List (Entry Limit)} → Every (BoundIn from) es → Every (Markable to) es → Every (BoundIn to) es
     join = every_both (λ e b m. (b.0, m))
 
-    marks : {es : List Limit} → Every (BoundIn to) es → Every (Markable to) es
+    marks : {es : List (Entry Limit)} → Every (BoundIn to) es → Every (Markable to) es
     marks = every_map (λ e b. b.1)
 
 -- every case that can be read goes into the wide form
@@ -82,7 +80,7 @@ all_widen {f} agreed s c q e =
 
 -- ---- what is read is whole, and holds nothing that is ignored
 -- the arrays have the code's size, so they are long enough
-made_whole : (n h : ℕ) (times : List Slot) (start target : List Limit) → Departures n → Whole (case_of n h times start target)
+made_whole : (n h : ℕ) (times : List (Entry Seconds)) (start target : List (Entry Limit)) → Departures n → Whole (case_of n h times start target)
 made_whole n h times start target d = record {
   times = simp (length-append, length-replicate) (omega (arith, table_fits d));
   start = simp (length-append, length-replicate) (omega (arith, pattern_fits d));
@@ -142,7 +140,7 @@ module _ {f : Form} (agreed : Agreed f) (s : List ℕ) where
 module _ (from to : Form) (s : List ℕ) where
   -- on what it cannot read
   pub convert_refused : {f : Fault} → parse_as from s ≡ refused f
-      → ((size : ℕ) → converted from to s size ≡ written.Refused f) × ((out : List ℕ) → output_after_conversion from to s out ≡ out)
+      → ((size : ℕ) → converted from to s size ≡ Err f) × ((out : List ℕ) → output_after_conversion from to s out ≡ out)
   unfolding converted output_after_conversion
   convert_refused e = (λ size. rw (e, converted), λ out. rw (e, output_after_conversion))
 
@@ -162,12 +160,12 @@ pub record Converts (from to : Form) (c : Case) (s t : List ℕ) : Type 0 where
   pub is : t ≡ packed_as to c
 
 -- where the converter says how many bytes it put into the output, these are what the input becomes
-pub converts : {from to : Form} {s out after : List ℕ} {count : ℕ} → ConvertGiven from to s out (written.Bytes count) after
+pub converts : {from to : Form} {s out after : List ℕ} {count : ℕ} → ConvertGiven from to s out (Ok count) after
     → (c : Case) × Converts from to c s (take count after)
 unfolding convert_fault told output_after
 converts {from} {to} {s} {out} {after} {count} g = rw g.output (go (parse_as from s) refl)
   where
-    put : (c : Case) (o : Option Fault) → convert_fault from to c (length out) ≡ o → told o (packed_as to c) ≡ written.Bytes count
+    put : (c : Case) (o : Option Fault) → convert_fault from to c (length out) ≡ o → told o (packed_as to c) ≡ Ok count
         → (loss_fault from to c ≡ none) × (take count (output_after o (packed_as to c) out) ≡ packed_as to c)
     put c none e t =
         let all : length (packed_as to c) ≡ count = cc in
@@ -206,12 +204,12 @@ module _ {from to : Form} {c : Case} {s t : List ℕ} (k : Converts from to c s 
 
 -- of the bytes that the converter put into the output, from the old form to the wide one or from the wide form to the old one
 module _ {from to : Form} (agreed : Agreed from) (other : Agreed to) {s out after : List ℕ} {count : ℕ} (small : Every (λ b. b < 256) s)
-    (g : ConvertGiven from to s out (written.Bytes count) after) where
+    (g : ConvertGiven from to s out (Ok count) after) where
   abbrev became : List ℕ
   became = take count after
 
   -- the other converter makes s again, and refuses them only where its output is too short for s
-  pub there_and_back : {next final : List ℕ} {r : Written} → ConvertGiven to from became next r final
+  pub there_and_back : {next final : List ℕ} {r : Result ℕ Fault} → ConvertGiven to from became next r final
       → (r ≡ told (room_for s (length next)) s) × (final ≡ output_after (room_for s (length next)) s next)
   there_and_back {next} b =
       let (c, k) = converts g in
@@ -231,10 +229,10 @@ module _ {from to : Form} (agreed : Agreed from) (other : Agreed to) {s out afte
 
 -- ---- input in the other form is refused by 2
 module _ (s : List ℕ) (c : Case) (q size : ℕ) (small : Every (λ b. b < 256) s) where
-  pub wide_not_widened : parse_as wide s ≡ got c q → converted old wide s size ≡ written.Refused fault.Departures
+  pub wide_not_widened : parse_as wide s ≡ got c q → converted old wide s size ≡ Err fault.Departures
   wide_not_widened e = (convert_refused old wide s (rw (read_bytes wide_form s c q e small) at (older_refuses c))).0 size
 
-  pub old_not_narrowed : parse_as old s ≡ got c q → converted wide old s size ≡ written.Refused fault.Departures
+  pub old_not_narrowed : parse_as old s ≡ got c q → converted wide old s size ≡ Err fault.Departures
   old_not_narrowed e =
       let sound = parsed_form (agreed_limits old_form) s c q e in
       (convert_refused wide old s (rw (read_bytes old_form s c q e small) at (wide_refuses c sound))).0 size
@@ -260,43 +258,43 @@ module _ {f : Form} (agreed : Agreed f) (s : List ℕ) (c : Case) (q : ℕ) (e :
       (x, y, rw first at departures, rw second at bounds)
 
 -- of bounds in the wide form, the first of which starts at place a, the first strict one starts at place p: its presence bit and its mark are there
-pub data FirstStrict (s : List ℕ) : ℕ → List Limit → ℕ → Type 0 where
-  here : {p : ℕ} {e : Limit} {es : List Limit} → (e.has && e.strict) ≡ true → bit_at s p ≡ 1 → bit_at s (suc p) ≡ 1 → FirstStrict s p (e ∷ es) p
-  later : {a p : ℕ} {e : Limit} {es : List Limit} → (e.has && e.strict) ≡ false → FirstStrict s (behind wide a e) es p → FirstStrict s a (e ∷ es) p
+pub data FirstStrict (s : List ℕ) : ℕ → List (Entry Limit) → ℕ → Type 0 where
+  here : {p : ℕ} {e : Entry Limit} {es : List (Entry Limit)} → marked e ≡ true → bit_at s p ≡ 1 → bit_at s (suc p) ≡ 1 → FirstStrict s p (e ∷ es) p
+  later : {a p : ℕ} {e : Entry Limit} {es : List (Entry Limit)} → marked e ≡ false → FirstStrict s (behind wide a e) es p → FirstStrict s a (e ∷ es) p
 
 module _ (s : List ℕ) where
   -- a strict bound has its presence bit and its mark
-  strict_bits : {p q : ℕ} (e : Limit) → BoundIn wide e → (e.has && e.strict) ≡ true → Spells s p (entry_bits (bound_kind wide) e) q
+  strict_bits : {p q : ℕ} (e : Entry Limit) → BoundIn wide e → marked e ≡ true → Spells s p (entry_bits (bound_kind wide) e) q
       → (bit_at s p ≡ 1) × (bit_at s (suc p) ≡ 1)
   unfolding entry_bits field_bits tabulate
-  strict_bits {p} {q} e fits t r =
-      let (has, strict) = and_true e.has e.strict t in
-      let v = (bound_kind wide).raw e in
-      let below = (bound_lawful (agreed_limits wide_form)).raw_small e has (λ p. (bound_fault_in_none wide p e).1 fits) in
+  strict_bits None fits t r = impossible cc
+  strict_bits {p} {q} (Some e) fits strict r =
+      let v = (bound_kind wide).raw (Some e) in
+      let below = (bound_lawful (agreed_limits wide_form)).raw_small (Some e) refl (λ p. (bound_fault_in_none wide p (Some e)).1 fits) in
       let above : 2 ^ bound_width ≤ v = rw strict (omega arith) in
-      go v above below (rw has at r)
+      go v above below r
     where
       go : (v : ℕ) → 2 ^ bound_width ≤ v → v < 2 ^ (wide_mark + bound_width) → Spells s p (1 ∷ field_bits (wide_mark + bound_width) v) q
           → (bit_at s p ≡ 1) × (bit_at s (suc p) ≡ 1)
       go v above below (bit presence (bit mark rest)) = (presence, mark ∙ omega arith)
 
   -- 16 is at a, or where it is for the others
-  abbrev Found : Fault → ℕ → List Limit → Type 0
+  abbrev Found : Fault → ℕ → List (Entry Limit) → Type 0
   Found f a es = (p : ℕ) × (f ≡ fault.Form p) × FirstStrict s a es p
 
-  first_or_later : (a : ℕ) (e : Limit) (es : List Limit) (f : Fault)
+  first_or_later : (a : ℕ) (e : Entry Limit) (es : List (Entry Limit)) (f : Fault)
       → let others = fault_along (behind wide) (mark_fault old) (behind wide a e) es in
-      ((e.has && e.strict) ≡ true → (bit_at s a ≡ 1) × (bit_at s (suc a) ≡ 1)) → (others ≡ some f → Found f (behind wide a e) es)
-      → (t : Bool) → (e.has && e.strict) ≡ t → or_else (when t (fault.Form a)) others ≡ some f → Found f a (e ∷ es)
+      (marked e ≡ true → (bit_at s a ≡ 1) × (bit_at s (suc a) ≡ 1)) → (others ≡ some f → Found f (behind wide a e) es)
+      → (t : Bool) → marked e ≡ t → or_else (when t (fault.Form a)) others ≡ some f → Found f a (e ∷ es)
   first_or_later a e es f bits rest true t h = let (presence, mark) = bits t in (a, cc, here t presence mark)
   first_or_later a e es f bits rest false t h = let (p, is, r) = rest h in (p, is, later t r)
 
   -- it is not before the first of them
-  not_before : {a p : ℕ} {es : List Limit} → FirstStrict s a es p → a ≤ p
+  not_before : {a p : ℕ} {es : List (Entry Limit)} → FirstStrict s a es p → a ≤ p
   not_before (here t presence mark) = omega arith
   not_before (later t r) = omega (arith, not_before r)
 
-  first_strict : (a q : ℕ) (es : List Limit) → Every (BoundIn wide) es → Spells s a (entries_bits (bound_kind wide) es) q
+  first_strict : (a q : ℕ) (es : List (Entry Limit)) → Every (BoundIn wide) es → Spells s a (entries_bits (bound_kind wide) es) q
       → (f : Fault) → fault_along (behind wide) (mark_fault old) a es ≡ some f → Found f a es
   unfolding entries_bits flat_map
   first_strict a q [] fits r f h = impossible cc

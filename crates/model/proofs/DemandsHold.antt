@@ -12,16 +12,19 @@ use lib.ListN.{length, take, length-map}
 use lib.Seq.{take_at}
 use Rattle.model.specs.declared.Case.{Case}
 use Rattle.model.specs.declared.Fault.{Fault}
+use Rattle.std.specs.Prelude.{Result, Ok, Err}
 use Rattle.model.specs.declared.Verdict.{Verdict}
+use Rattle.model.specs.declared.StartTimes.{StartTimes}
 use Rattle.model.specs.declared.Verdict.TheVariants as verdict
 use Rattle.model.specs.Matrix.{Matrix}
 use Rattle.model.specs.Network.{Network, in_parts}
 use Rattle.model.specs.Search.{Outcome, reached, clear, never, table_full, first_common, parts_of, start_in, outcome, lists}
 use Rattle.model.specs.Faults.{network, call_fault}
-use Rattle.model.specs.Answers.{seconds, cycle_number, all_times, numbers_of, refusal, answered, answer, workspace_after, answer_packed, workspace_after_packed}
+use Rattle.model.specs.Answers.{seconds, cycle_number, all_times, start_of, numbers_of, answered}
+use Rattle.model.specs.Answers.{answer, workspace_after, answer_packed, workspace_after_packed}
 use Rattle.model.specs.Zones.{ListsOfZones}
 use Rattle.model.specs.Demands as D
-use Rattle.model.specs.Demands.{InLimits, Ended, Demand1, Witness, Met, NotBefore, First, EndsEarly, EndsAt}
+use Rattle.model.specs.Demands.{InLimits, Ended, Reaches, Demand1, Witness, Met, NotBefore, First, EndsEarly, EndsAt}
 use Rattle.model.specs.Demands.{FullAt, Demand2, Repeats, RunsDry, NeverHolds, Demand3, Demands, PackedDemands, ListLimits, Reserved}
 use Rattle.model.specs.Conditions.{Regular}
 use Rattle.model.proofs.ZoneSets.{lists_of_zones}
@@ -34,7 +37,7 @@ use Rattle.model.proofs.Dry.{dry_beyond}
 use Rattle.model.proofs.Concluded as concluded
 use Rattle.model.proofs.Concluded.{Concluded, reached_at, clear_at, never_at, conclusion}
 
-ended : (o : Outcome) → Ended (numbers_of (answered o).verdict)
+ended : (o : Outcome) → Ended (numbers_of (answered o))
 ended (reached k parts xs) = D.Ended.reached k
 ended (clear k) = D.Ended.clear k
 ended never = D.Ended.never
@@ -46,7 +49,7 @@ module _ (c : Case) (capacity size : ℕ) where
   unfolding answer
   answer_in e = rw (e, answer)
 
-  pub answer_refused : (f : Fault) → call_fault c capacity size ≡ some f → answer c capacity size ≡ refusal f
+  pub answer_refused : (f : Fault) → call_fault c capacity size ≡ some f → answer c capacity size ≡ Err f
   unfolding answer
   answer_refused f e = rw (e, answer)
 
@@ -66,26 +69,26 @@ pub numbers : (xs : List ℤ) → map (λ x. x.0) (map seconds xs) ≡ xs
 numbers [] = refl
 numbers (x ∷ xs) = ap (◌∷◌ x) (numbers xs)
 
-abbrev value_of : Verdict → ℕ
-value_of v = (numbers_of v).value
+abbrev value_of : Result Verdict Fault → ℕ
+value_of r = (numbers_of r).value
 
 -- ---- what a network's outcome says, as an answer
-abbrev Verdict-of : Outcome → Verdict
-Verdict-of o = (answered o).verdict
-
 -- reached comes of the first cycle met, with the start picked
-pub record ReachedAt (w : Network) (o : Outcome) (k : ℕ) : Type 0 where
+pub record ReachedAt (w : Network) (o : Outcome) (k : ℕ) (s : StartTimes) : Type 0 where
   pub zone : Matrix
   pub is_first : First w k
   pub in_common : first_common w.n w.start (lists w k) ≡ some zone
   pub is : o ≡ reached k (parts_of w) (start_in w.n (parts_of w) zone)
+  pub start_is : s ≡ start_of (parts_of w) (start_in w.n (parts_of w) zone)
 
-pub reached_only : {w : Network} {capacity : ℕ} {o : Outcome} → Concluded w capacity o → (k : ℕ) → Verdict-of o ≡ verdict.Reached (cycle_number k)
-    → ReachedAt w o k
-reached_only (reached_at {d} {k = j} f s a) k e = let q : j ≡ k = ap value_of e in rw (← q) (record { zone = d; is_first = f; in_common = s; is = refl })
-reached_only (concluded.is_table_full e h) k q = impossible cc
-reached_only (clear_at s u a) k q = impossible cc
-reached_only (never_at h) k q = impossible cc
+pub reached_only : {w : Network} {capacity : ℕ} {o : Outcome} → Concluded w capacity o → (k : ℕ) (s : StartTimes)
+    → answered o ≡ Ok (verdict.Reached (cycle_number k) s) → ReachedAt w o k s
+reached_only (reached_at {d} {k = j} f c a) k s e =
+    let q : j ≡ k = ap value_of e in
+    rw (← q) (record { zone = d; is_first = f; in_common = c; is = refl; start_is = cc })
+reached_only (concluded.is_table_full e h) k s q = impossible cc
+reached_only (clear_at c u a) k s q = impossible cc
+reached_only (never_at h) k s q = impossible cc
 
 module _ (w : Network) (capacity : ℕ) (reg : Regular w.n w.times) (some_row : 1 ≤ w.n) where
   first_once : {j k : ℕ} → First w j → First w k → j ≡ k
@@ -101,36 +104,38 @@ module _ (w : Network) (capacity : ℕ) (reg : Regular w.n w.times) (some_row : 
   never_met : NeverHolds w capacity → (k : ℕ) → 1 ≤ k → Met w k → ⊥
   never_met h = ⊎_elim (λ s. beyond w reg s.again s.first s.proviso s.unmet) (dry_beyond w reg) h.cause
 
-  only_first : {o : Outcome} → Concluded w capacity o → (EndsEarly w capacity → ⊥) → (k : ℕ) → First w k → Verdict-of o ≡ verdict.Reached (cycle_number k)
-  only_first (reached_at f s a) d k g = ap (λ (i : ℕ). verdict.Reached (cycle_number i)) (first_once f g)
+  only_first : {o : Outcome} → Concluded w capacity o → (EndsEarly w capacity → ⊥) → (k : ℕ) → First w k → Reaches k (answered o)
+  only_first (reached_at {d = z} f s a) d k g =
+      let start = start_of (parts_of w) (start_in w.n (parts_of w) z) in
+      (start, ap (λ (i : ℕ). Ok (verdict.Reached (cycle_number i) start)) (first_once f g))
   only_first (concluded.is_table_full e h) d k g = absurd (d (early (e, h)))
   only_first (clear_at s unmet a) d k g = absurd (unmet k g.from_one (let h = g.to_horizon in omega arith) g.met)
   only_first (never_at h) d k g = absurd (never_met h k g.from_one g.met)
 
-  started : {o : Outcome} → Concluded w capacity o → (k : ℕ) → Verdict-of o ≡ verdict.Reached (cycle_number k)
-      → ((answered o).parts ≡ parts_of w) × Witness (in_parts (answered o).parts w) k (map (λ x. x.0) (take w.n (answered o).start))
+  started : {o : Outcome} → Concluded w capacity o → (k : ℕ) (s : StartTimes) → answered o ≡ Ok (verdict.Reached (cycle_number k) s)
+      → (s.parts ≡ parts_of w) × Witness (in_parts s.parts w) k (map (λ x. x.0) (take w.n s.times))
   unfolding in_parts
-  started c k e =
-      let r = reached_only c k e in
+  started c k s e =
+      let r = reached_only c k s e in
       let xs = start_in w.n (parts_of w) r.zone in
       let met = met_by w reg k r.in_common in
-      rw (r.is, first_times w.n xs met.size, numbers xs) (refl, met)
+      rw (r.start_is, first_times w.n xs met.size, numbers xs) (refl, met)
 
   otherwise : {o : Outcome} → Concluded w capacity o → (EndsEarly w capacity → ⊥) → NotBefore w (suc w.horizon)
-      → (Verdict-of o ≡ verdict.Clear (cycle_number w.horizon)) ⊎ (Verdict-of o ≡ verdict.Never)
+      → (answered o ≡ Ok (verdict.Clear (cycle_number w.horizon))) ⊎ (answered o ≡ Ok verdict.Never)
   otherwise (reached_at f s a) d unmet = absurd (unmet _ f.from_one (let h = f.to_horizon in omega arith) f.met)
   otherwise (concluded.is_table_full e h) d unmet = absurd (d (early (e, h)))
   otherwise (clear_at s u a) d unmet = inl refl
   otherwise (never_at h) d unmet = inr refl
 
   -- clear: neither cause of never
-  clear_means : {o : Outcome} → Concluded w capacity o → Verdict-of o ≡ verdict.Clear (cycle_number w.horizon) → (Repeats w → ⊥) × (RunsDry w → ⊥)
+  clear_means : {o : Outcome} → Concluded w capacity o → answered o ≡ Ok (verdict.Clear (cycle_number w.horizon)) → (Repeats w → ⊥) × (RunsDry w → ⊥)
   clear_means (reached_at f s a) e = impossible cc
   clear_means (concluded.is_table_full f h) e = impossible cc
   clear_means (clear_at neither unmet a) e = (λ s. neither (inl s), λ d. neither (inr d))
   clear_means (never_at h) e = impossible cc
 
-  never_exactly : {o : Outcome} → Concluded w capacity o → (Verdict-of o ≡ verdict.Never) ↔ NeverHolds w capacity
+  never_exactly : {o : Outcome} → Concluded w capacity o → (answered o ≡ Ok verdict.Never) ↔ NeverHolds w capacity
   never_exactly (reached_at f s a) = (λ e. impossible cc, λ h. absurd (never_met h _ f.from_one f.met))
   never_exactly (concluded.is_table_full e f) = (λ e. impossible cc, λ h. absurd (h.not_early (early (e, f))))
   never_exactly (clear_at neither unmet a) = (λ e. impossible cc, λ h. absurd (neither h.cause))
@@ -143,10 +148,10 @@ module _ (w : Network) (capacity : ℕ) (reg : Regular w.n w.times) (some_row : 
       let not_more : ¬ (k < j) = λ h. let fits = a.fit_before k b.from_one h in omega arith in
       omega arith
 
-  full_at : {o : Outcome} → Concluded w capacity o → (k : ℕ) → (Verdict-of o ≡ verdict.Refused (fault.TableFull (cycle_number k))) ↔ FullAt w capacity k
+  full_at : {o : Outcome} → Concluded w capacity o → (k : ℕ) → (answered o ≡ Err (fault.TableFull (cycle_number k))) ↔ FullAt w capacity k
   full_at (concluded.is_table_full {k = j} e h) k = (
     λ q. let p : j ≡ k = ap value_of q in rw (← p) (e, h),
-    λ f. ap (λ (i : ℕ). verdict.Refused (fault.TableFull (cycle_number i))) (ends_once (e, h) f),
+    λ f. ap (λ (i : ℕ). Err (fault.TableFull (cycle_number i))) (ends_once (e, h) f),
   )
   full_at (reached_at f s a) k = (λ q. impossible cc, λ g. absurd (a (early g)))
   full_at (clear_at s u a) k = (λ q. impossible cc, λ g. absurd (a (early g)))
@@ -169,14 +174,14 @@ module _ (c : Case) (capacity size : ℕ) (limits : InLimits c capacity size) wh
   pub demand2 : Demand2 c capacity (answer c capacity size)
   unfolding network
   demand2 = rw (answer_in c capacity size limits) (record {
-    first = λ k e. (reached_only concludes k e).is_first;
-    exactly = λ d k. (λ e. (reached_only concludes k e).is_first, only_first w capacity regular_case some_departures concludes d k);
+    first = λ k (s, e). (reached_only concludes k s e).is_first;
+    exactly = λ d k. (λ (s, e). (reached_only concludes k s e).is_first, only_first w capacity regular_case some_departures concludes d k);
     start = started w capacity regular_case some_departures concludes;
     otherwise = otherwise w capacity regular_case some_departures concludes;
     full = full_at w capacity regular_case some_departures concludes;
   })
 
-  never_is : ((answer c capacity size).verdict ≡ verdict.Never) ↔ NeverHolds (network c) capacity
+  never_is : (answer c capacity size ≡ Ok verdict.Never) ↔ NeverHolds (network c) capacity
   never_is = rw (answer_in c capacity size limits) (never_exactly (network c) capacity regular_case some_departures concludes)
 
   pub demand3 : Demand3 c capacity (answer c capacity size)

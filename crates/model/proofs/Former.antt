@@ -9,6 +9,7 @@ use mathlib.Core.List.{List, [], ◌∷◌, map}
 use mathlib.Core.Option
 use mathlib.Core.Option.{Option, none, some}
 use Rattle.model.specs.declared.Case.{Case}
+use Rattle.std.specs.Prelude.{Some, None}
 use Rattle.model.specs.declared.Limit.{Limit}
 use lib.IntN.{ℤ, pos, ◌+ℤ◌}
 use lib.Signed.{le_z, lt_z}
@@ -17,13 +18,12 @@ use lib.ListN.{length}
 use Rattle.ints.proofs.Integers.{ints, pos_ud}
 use Rattle.model.specs.Forms.{old}
 use Rattle.model.specs.Lists.{when, or_else, any_of, Every}
-use Rattle.model.specs.Bound as B
-use Rattle.model.specs.Bound.{Bound, upto, most, halves, plus, tighter, negative, same_z, same_bound, scale}
+use Rattle.model.specs.Bound.{most, halves, plus, tighter, negative, same_z, same_bound, scale}
 use Rattle.model.specs.Matrix.{Matrix}
 use Rattle.model.specs.Network.{Time, blank, secs, scale_time, Network, in_parts}
 use Rattle.model.specs.Search.{lists, previous, first_common, pick, is_strict, some_strict, parts_of, start_in, Outcome, reached, never, table_full}
 use Rattle.model.specs.Search.{dry, settled, search_by, search_from, plan, outcome}
-use Rattle.model.specs.Faults.{bound_of, network, patterns_fault, form_fault}
+use Rattle.model.specs.Faults.{Entry, marked, bound_of, network, patterns_fault, form_fault}
 use Rattle.model.specs.Answers.{answered, answer}
 use Rattle.model.specs.Demands.{InLimits, Witness, Met}
 use Rattle.model.specs.Conditions.{BoundIn, Regular}
@@ -142,13 +142,13 @@ same_answer c capacity size limits none-strict =
     answer_in c capacity size limits ∙ ap answered (same_outcome (network c) (limits_of c capacity size limits).table.regular none-strict capacity)
 
 -- ---- a case for the old form, which has no place for a mark
-unmarked_plain : {es : List Limit} → Every (BoundIn old) es → any_of is_strict (map bound_of es) ≡ false
+unmarked_plain : {es : List (Entry Limit)} → Every (BoundIn old) es → any_of is_strict (map bound_of es) ≡ false
 unfolding is_strict bound_of
-unmarked_plain h = not_any is_strict (map_every bound_of (every_map (λ e b. plain e.has e b.1) h))
+unmarked_plain h = not_any is_strict (map_every bound_of (every_map (λ e b. plain e b.1) h))
   where
-    plain : (t : Bool) (e : Limit) → (t && e.strict) ≡ false → is_strict (cond t (upto e.strict e.value.0) B.Bound.none) ≡ false
-    plain true e h = h
-    plain false e h = refl
+    plain : (e : Entry Limit) → marked e ≡ false → is_strict (bound_of e) ≡ false
+    plain (Some e) h = h
+    plain None h = refl
 
 pub form_plain : (c : Case) → form_fault old c ≡ none → some_strict (network c) ≡ false
 unfolding form_fault patterns_fault network

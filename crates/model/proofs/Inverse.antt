@@ -4,7 +4,7 @@ use Prim.Native.Nat.{ℕ, zero, suc, ◌+◌, ◌*◌, ◌^◌, ◌≤◌, ◌<�
 use native.Mathlib.Omega.{arith}
 use native.Mathlib.Nat.{div-one, mod-eq_of_lt}
 use mathlib.Core.Path.{◌≡◌, refl, sym, ap, ◌∙◌}
-use mathlib.Core.List.{List, [], ◌∷◌, ◌++◌, map, flat_map, append_assoc, append-nil}
+use mathlib.Core.List.{List, [], ◌∷◌, ◌++◌, flat_map, append_assoc, append-nil}
 use mathlib.Core.Bool.{Bool, true, false, cond}
 use mathlib.Core.Option.{none}
 use lib.Dec.{eqb}
@@ -13,7 +13,7 @@ use lib.Seq.{length-take-le}
 use borrow.Author.Tests.{eqb-true, eqb-false}
 use Rattle.model.specs.Lists.{tabulate, Every, done, both}
 use Rattle.model.specs.Packed.{got, bits, Kind, entry, entries}
-use Rattle.model.specs.Writing.{field_bits, entry_bits, entries_bits, tidy}
+use Rattle.model.specs.Writing.{field_bits, entry_bits, entries_bits}
 use Rattle.model.proofs.Parsed.{Gives, value, test_gives, then_gives, unless_gives}
 use Rattle.model.proofs.Spelled.{Spells, end, join, split, bits_of, bits_spell}
 
@@ -25,6 +25,7 @@ Clean k e = (p : ℕ) → k.judge p e ≡ none
 -- a number of the kind's width stands for an entry, and an entry without a fault has such a number
 pub record Lawful {A : Type 0} (k : Kind A) : Type 0 where
   pub absent_is : k.has k.absent ≡ false
+  pub only_absent : (e : A) → k.has e ≡ false → k.absent ≡ e
   pub value_is : (v : ℕ) → k.has (k.value v) ≡ true
   pub raw_value : (v : ℕ) → v < 2 ^ k.width → k.raw (k.value v) ≡ v
   pub raw_small : (e : A) → k.has e ≡ true → Clean k e → k.raw e < 2 ^ k.width
@@ -48,26 +49,26 @@ entries_split k xs ys z = split (entries_bits k xs) (entries_bits k ys) (rw (bit
 
 module _ {A : Type 0} (k : Kind A) (law : Lawful k) (s : List ℕ) where
   -- ---- what is written is read
-  entry_of : {p q : ℕ} (e : A) → Clean k e → Spells s p (entry_bits k e) q → entry k s p ≡ got (tidy k e) q
+  entry_of : {p q : ℕ} (e : A) → Clean k e → Spells s p (entry_bits k e) q → entry k s p ≡ got e q
   unfolding entry entry_bits
   entry_of {p} {q} e clean = go (k.has e) refl
     where
       presence : {q : ℕ} (b : ℕ) → b < 2 ^ 1 → Spells s p (b ∷ []) q → bits s 1 p p ≡ got b q
       presence b h r = bits_of s 1 p b h (rw (one_bit b h) r)
 
-      go : (b : Bool) → k.has e ≡ b → Spells s p (cond b (1 ∷ field_bits k.width (k.raw e)) (0 ∷ [])) q → entry k s p ≡ got (cond b e k.absent) q
-      go false h r = rw (presence 0 (omega arith) r)
+      go : (b : Bool) → k.has e ≡ b → Spells s p (cond b (1 ∷ field_bits k.width (k.raw e)) (0 ∷ [])) q → entry k s p ≡ got e q
+      go false h r = rw (presence 0 (omega arith) r, law.only_absent e h)
       go true h r =
           let (m, x, y) = split (1 ∷ []) (field_bits k.width (k.raw e)) r in
           rw (presence 1 (omega arith) x, bits_of s k.width p (k.raw e) (law.raw_small e h clean) y, law.value_raw e h clean, clean p)
 
   entries_of_lem : {p q : ℕ} (es before : List A) → Every (Clean k) es → Spells s p (entries_bits k es) q
-      → entries k s (length es) p before ≡ got (before ++ map (tidy k) es) q
+      → entries k s (length es) p before ≡ got (before ++ es) q
   unfolding entries entries_bits flat_map
   entries_of_lem [] before done (end p h) = rw append-nil
   entries_of_lem {p = p} (e ∷ es) before (both h hs) r =
       let (m, x, y) = split (entry_bits k e) (entries_bits k es) r in
-      rw (entry_of e h x, entries_of_lem {p = m} es (before ++ tidy k e ∷ []) hs y, append_assoc)
+      rw (entry_of e h x, entries_of_lem {p = m} es (before ++ e ∷ []) hs y, append_assoc)
 
   -- ---- what is read is written
   entry_spells : (p : ℕ) → Gives (λ e q. Spells s p (entry_bits k e) q) (entry k s p)
@@ -95,7 +96,7 @@ module _ {A : Type 0} (k : Kind A) (law : Lawful k) (s : List ℕ) where
 
   -- of entries without a fault the first count are read where they are written
   pub first_of : {p q : ℕ} (count : ℕ) (es : List A) → count ≤ length es → Every (Clean k) (take count es) → Spells s p (entries_bits k (take count es)) q
-      → entries k s count p [] ≡ got (map (tidy k) (take count es)) q
+      → entries k s count p [] ≡ got (take count es) q
   first_of {p} count es long clean r = rw (length-take-le count es long) at (entries_of_lem (take count es) [] clean r)
 
   -- count entries that are read are written there

@@ -39,6 +39,7 @@ pub mod Plain
 pub mod Wholes
 pub mod Searched
 pub mod Dry
+pub mod Outcomes
 pub mod PartSizes
 pub mod Sizes
 pub mod Fitted

@@ -7,17 +7,17 @@ use mathlib.Core.Path.{◌≡◌, refl, sym, ap, ap₂, ◌∙◌}
 use mathlib.Core.Logic.{◌↔◌}
 use mathlib.Core.List.{List, [], ◌∷◌, map}
 use mathlib.Core.Option.{Option, none, some}
-use mathlib.Core.Bool.{Bool, true, false, not, ◌&&◌, ◌||◌, cond}
+use mathlib.Core.Bool.{Bool, true, false, not, ◌||◌, cond}
 use lib.IntN.{ℤ, nat_abs}
 use lib.Arith.{digits_lt}
 use lib.Dec.{ltb, eqb}
 use lib.ListN.{length, take, drop, get_or, length-map, length-take}
 use lib.Seq.{get_or-drop, drop-drop, take-add}
 use borrow.Author.Tests.{ltb-false, le-ltb, not-false}
+use Rattle.std.specs.Prelude.{Some, None}
 use Rattle.ints.specs.declared.Seconds.{Seconds}
 use Rattle.ints.proofs.Integers.{impossible}
 use Rattle.model.specs.Sizes.{most_departures, most_cycles, most_zones, time_limit, bound_limit, start_limit, table_size, workspace_size}
-use Rattle.model.specs.declared.Slot.{Slot}
 use Rattle.model.specs.declared.Limit.{Limit}
 use Rattle.model.specs.declared.Case.{Case}
 use Rattle.model.specs.declared.Form.{Form}
@@ -29,7 +29,7 @@ use Rattle.model.specs.Bound as B
 use Rattle.model.specs.Bound.{Bound, upto}
 use Rattle.model.specs.Pattern.{pair_place, pair_bound}
 use Rattle.model.specs.Network.{Time, blank, secs, time, is_time, regular}
-use Rattle.model.specs.Faults.{time_of, table_of, bound_of, nothing, present, stated, network, beyond, over, bound_fault, bound_fault_in, fault_along}
+use Rattle.model.specs.Faults.{Entry, time_of, table_of, bound_of, present, stated, network, beyond, over, bound_fault, bound_fault_in, fault_along}
 use Rattle.model.specs.Faults.{entry_fault, rows_fault, outside, departures_fault, times_fault, table_fault, patterns_fault, case_fault, form_fault, room_fault}
 use Rattle.model.specs.Faults.{call_fault, run_fault}
 use Rattle.model.specs.Conditions.{Departures, Regular, Small, free, sized, InLimit, BoundInLimit, BoundIn, TableLimits, Limits}
@@ -62,11 +62,10 @@ pub ltb_is_false : (a b : ℕ) → (ltb a b ≡ false) ↔ (b ≤ a)
 ltb_is_false a b = (ltb-false a b, le-ltb a b)
 
 -- a larger limit
-pub wider_limit : {a b : ℕ} → a ≤ b → (e : Slot) → InLimit a e → InLimit b e
+pub wider_limit : {a b : ℕ} → a ≤ b → (e : Entry Seconds) → InLimit a e → InLimit b e
 unfolding beyond
-wider_limit {a} {b} h e =
-    let size = nat_abs e.value.0 in
-    elim e.has as (λ t. (t && ltb a size) ≡ false → (t && ltb b size) ≡ false) [ true ↦ λ l. le-ltb b size (omega (arith, ltb-false)) | false ↦ λ l. refl ]
+wider_limit h None l = refl
+wider_limit {a} {b} h (Some x) l = le-ltb b (nat_abs x.0) (omega (arith, ltb-false))
 
 -- every entry has P, if those that are judged without a fault do
 pub every_none : {A : Type 0} (next : ℕ → A → ℕ) {judge : ℕ → A → Option Fault} {P : A → Type 0} → ((p : ℕ) (e : A) → (judge p e ≡ none) ↔ P e)
@@ -78,46 +77,46 @@ every_none next each p (e ∷ es) =
     simp or_else_none (λ h. both (here.0 h.0) (rest.0 h.1), λ h. (here.1 (of_both h).0, rest.1 (of_both h).1))
 
 -- an entry in the limit, and a bound
-pub over_none : (limit : ℕ) (f : ℕ → Fault) (p : ℕ) (e : Slot) → (over limit f p e ≡ none) ↔ InLimit limit e
+pub over_none : (limit : ℕ) (f : ℕ → Fault) (p : ℕ) (e : Entry Seconds) → (over limit f p e ≡ none) ↔ InLimit limit e
 unfolding over
 over_none limit f p e = when_none (beyond limit e) (f p)
 
-bound_fault_none : (p : ℕ) (e : Limit) → (bound_fault p e ≡ none) ↔ BoundInLimit e
+bound_fault_none : (p : ℕ) (e : Entry Limit) → (bound_fault p e ≡ none) ↔ BoundInLimit e
 unfolding bound_fault
 bound_fault_none p e = over_none bound_limit fault.Bound p (stated e)
 
 -- and one for a form
-pub bound_fault_in_none : (f : Form) (p : ℕ) (e : Limit) → (bound_fault_in f p e ≡ none) ↔ BoundIn f e
+pub bound_fault_in_none : (f : Form) (p : ℕ) (e : Entry Limit) → (bound_fault_in f p e ≡ none) ↔ BoundIn f e
 unfolding bound_fault_in
 bound_fault_in_none f p e = simp (or_else_none, bound_fault_none, when_none) (λ h. h, λ h. h)
 
 -- all of them
-pub entry_fault_none : (limit : ℕ) (f : ℕ → Fault) (p : ℕ) (es : List Slot) → (entry_fault (over limit f) p es ≡ none) ↔ Every (InLimit limit) es
+pub entry_fault_none : (limit : ℕ) (f : ℕ → Fault) (p : ℕ) (es : List (Entry Seconds)) → (entry_fault (over limit f) p es ≡ none) ↔ Every (InLimit limit) es
 unfolding entry_fault
 entry_fault_none limit f = every_none (λ q e. suc q) (over_none limit f)
 
-pub bounds_fault_none : (p : ℕ) (es : List Limit) → (entry_fault bound_fault p es ≡ none) ↔ Every BoundInLimit es
+pub bounds_fault_none : (p : ℕ) (es : List (Entry Limit)) → (entry_fault bound_fault p es ≡ none) ↔ Every BoundInLimit es
 unfolding entry_fault
 bounds_fault_none = every_none (λ q e. suc q) bound_fault_none
 
-pub bounds_fault_in_none : (f : Form) (p : ℕ) (es : List Limit) → (entry_fault (bound_fault_in f) p es ≡ none) ↔ Every (BoundIn f) es
+pub bounds_fault_in_none : (f : Form) (p : ℕ) (es : List (Entry Limit)) → (entry_fault (bound_fault_in f) p es ≡ none) ↔ Every (BoundIn f) es
 unfolding entry_fault
 bounds_fault_in_none f = every_none (λ q e. suc q) (bound_fault_in_none f)
 
 -- r rows of n entries each: every time is in its limit, and each row holds a time
-pub data RowsInLimit (n : ℕ) : ℕ → List Slot → Type 0 where
-  no_row : {es : List Slot} → RowsInLimit n zero es
-  row : {r : ℕ} {es : List Slot} → Every (InLimit time_limit) (take n es) → regular (map time_of (take n es)) ≡ true → RowsInLimit n r (drop n es)
+pub data RowsInLimit (n : ℕ) : ℕ → List (Entry Seconds) → Type 0 where
+  no_row : {es : List (Entry Seconds)} → RowsInLimit n zero es
+  row : {r : ℕ} {es : List (Entry Seconds)} → Every (InLimit time_limit) (take n es) → regular (map time_of (take n es)) ≡ true → RowsInLimit n r (drop n es)
       → RowsInLimit n (suc r) es
 
 module _ {n : ℕ} where
   -- the first row, and the others
-  of_row : {r : ℕ} {es : List Slot} → RowsInLimit n (suc r) es
+  of_row : {r : ℕ} {es : List (Entry Seconds)} → RowsInLimit n (suc r) es
       → Every (InLimit time_limit) (take n es) × ((regular (map time_of (take n es)) ≡ true) × RowsInLimit n r (drop n es))
   of_row (row h t rest) = (h, (t, rest))
 
   -- row k of them, counted from 0
-  pub row_at : {r : ℕ} {es : List Slot} → RowsInLimit n r es → (k : ℕ) → k < r
+  pub row_at : {r : ℕ} {es : List (Entry Seconds)} → RowsInLimit n r es → (k : ℕ) → k < r
       → Every (InLimit time_limit) (take n (drop (k * n) es)) × (regular (map time_of (take n (drop (k * n) es))) ≡ true)
   row_at no_row k l = absurd (omega arith)
   row_at (row h t rest) zero l = rw (zero-mul n) (h, t)
@@ -126,14 +125,14 @@ module _ {n : ℕ} where
       rw (e, ← (drop-drop (k * n) n es)) (row_at rest k (omega arith))
 
   -- all their entries
-  pub rows_in : {r : ℕ} {es : List Slot} → RowsInLimit n r es → Every (InLimit time_limit) (take (r * n) es)
+  pub rows_in : {r : ℕ} {es : List (Entry Seconds)} → RowsInLimit n r es → Every (InLimit time_limit) (take (r * n) es)
   rows_in no_row = rw (zero-mul n) done
   rows_in (row {r} {es} h t rest) =
       let e : suc r * n ≡ n + r * n = omega arith in
       rw (e, take-add n (r * n) es) (every_append h (rows_in rest))
 
 -- the rows are in their limit
-pub rows_fault_none : (n r p : ℕ) (es : List Slot) → (rows_fault n r p es ≡ none) ↔ RowsInLimit n r es
+pub rows_fault_none : (n r p : ℕ) (es : List (Entry Seconds)) → (rows_fault n r p es ≡ none) ↔ RowsInLimit n r es
 unfolding rows_fault
 rows_fault_none n zero p es = (λ e. no_row, λ e. refl)
 rows_fault_none n (suc r) p es =
@@ -156,17 +155,20 @@ pub ruleset no_fault = (
 -- ---- the numbers of entries in the limit
 -- entries that are read as `value` of their number, or as `no` where absent: what holds of `no` and of `value` at small numbers holds of them
 module _ {limit : ℕ} {Y : Type 0} (P : Y → Type 0) (value : ℤ → Y) (no : Y) (absent : P no) (small : (z : ℤ) → nat_abs z ≤ limit → P (value z)) where
-  entry_in : (e : Slot) → InLimit limit e → P (cond e.has (value e.value.0) no)
+  abbrev read : Entry Seconds → Y
+  read None = no
+  read (Some x) = value x.0
+
+  entry_in : (e : Entry Seconds) → InLimit limit e → P (read e)
   unfolding beyond
-  entry_in e =
-      let z = e.value.0 in
-      elim e.has as (λ t. (t && ltb limit (nat_abs z)) ≡ false → P (cond t (value z) no)) [ true ↦ λ h. small z (ltb-false _ _ h) | false ↦ λ h. absent ]
+  entry_in None h = absent
+  entry_in (Some x) h = small x.0 (ltb-false _ _ h)
 
   -- and so at every place
-  entry_at : {es : List Slot} → Every (InLimit limit) es → (p : ℕ) → P (get_or (map (λ e. cond e.has (value e.value.0) no) es) p no)
+  entry_at : {es : List (Entry Seconds)} → Every (InLimit limit) es → (p : ℕ) → P (get_or (map read es) p no)
   entry_at h = at_get_d {P = P} no absent (map_every _ (every_map entry_in h))
 
-module _ {limit : ℕ} {es : List Slot} (h : Every (InLimit limit) es) where
+module _ {limit : ℕ} {es : List (Entry Seconds)} (h : Every (InLimit limit) es) where
   -- a time among them is at most limit in size
   pub time_small : (p : ℕ) (v : ℤ) → get_or (map time_of es) p blank ≡ secs v → nat_abs v ≤ limit
   unfolding time_of
@@ -175,14 +177,17 @@ module _ {limit : ℕ} {es : List Slot} (h : Every (InLimit limit) es) where
       (λ e. impossible cc) (λ z l e. let d : z ≡ v = cc in rw d at l) h p
 
 -- and so is a bound of a pattern
-pub bound_small : {es : List Limit} → Every BoundInLimit es → (n i j : ℕ) → Small bound_limit (pair_bound n (map bound_of es) i j)
-unfolding bound_of pair_bound
+pub bound_small : {es : List (Entry Limit)} → Every BoundInLimit es → (n i j : ℕ) → Small bound_limit (pair_bound n (map bound_of es) i j)
+unfolding bound_of beyond pair_bound
 bound_small {es} h n i j =
     elim (eqb i j) as (λ t. Small bound_limit (cond t B.Bound.none (get_or (map bound_of es) (pair_place n i j) B.Bound.none))) [
       | true ↦ free
-      | false ↦ at_get_d {P = Small bound_limit} B.Bound.none free (map_every bound_of (every_map (λ e l.
-          entry_in (Small bound_limit) (upto e.strict) B.Bound.none free (λ z. sized) (stated e) l) h)) (pair_place n i j)
+      | false ↦ at_get_d {P = Small bound_limit} B.Bound.none free (map_every bound_of (every_map small h)) (pair_place n i j)
     ]
+  where
+    small : (e : Entry Limit) → BoundInLimit e → Small bound_limit (bound_of e)
+    small None l = free
+    small (Some e) l = sized (ltb-false _ _ l)
 
 -- ---- rows that hold a time
 -- the place of a time
@@ -193,7 +198,7 @@ time_at (blank ∷ ts) h = let (j, l, v, e) = time_at ts h in (suc j, omega arit
 time_at (secs v ∷ ts) h = (0, omega arith, v, refl)
 
 -- n such rows are a regular table
-pub rows_regular : {n : ℕ} {es : List Slot} → RowsInLimit n n es → Regular n (table_of n es)
+pub rows_regular : {n : ℕ} {es : List (Entry Seconds)} → RowsInLimit n n es → Regular n (table_of n es)
 unfolding time
 rows_regular {n} {es} r i l u =
     let k = i - 1 in
@@ -202,7 +207,7 @@ rows_regular {n} {es} r i l u =
     let in_row : j < n = omega (arith, length-map (take n at) time_of, length-take n at) in
     let in_rows : k < n = omega arith in
     let same : suc j - 1 ≡ j = omega arith in
-    let is = get_d_times (table_size n) es (k * n + j) (digits_lt in_rows in_row) ∙ ap time_of (sym (get_or-drop (k * n) es j nothing))
+    let is = get_d_times (table_size n) es (k * n + j) (digits_lt in_rows in_row) ∙ ap time_of (sym (get_or-drop (k * n) es j None))
     ∙ sym (get_d_times n at j in_row) ∙ e in
     (suc j, record { from_one = omega arith; to_n = omega arith; value = v; is = rw same is })
 
@@ -217,7 +222,7 @@ pub record RunLimits (c : Case) (xs : List Seconds) (k : ℕ) : Type 0 where
   pub starts_small : StartsSmall (take c.n xs)
 
 -- a table of rows in their limit is in the limits
-table_of_lem : {n : ℕ} {es : List Slot} → Departures n → RowsInLimit n n es → TableLimits n (table_of n es)
+table_of_lem : {n : ℕ} {es : List (Entry Seconds)} → Departures n → RowsInLimit n n es → TableLimits n (table_of n es)
 unfolding time
 table_of_lem d r = record { departures = d; regular = rows_regular r; times_small = λ i j. time_small (rows_in r) _ }
 
@@ -248,7 +253,7 @@ wide_fault c = has_place (ltb c.n 1) (ltb most_departures c.n) _ ∙ ap (or_else
     has_place false true o = refl
     has_place false false o = refl
 
-    same : (p : ℕ) (es : List Limit) → entry_fault (bound_fault_in wide) p es ≡ entry_fault bound_fault p es
+    same : (p : ℕ) (es : List (Entry Limit)) → entry_fault (bound_fault_in wide) p es ≡ entry_fault bound_fault p es
     same = entry_fault_same (λ p e. or_else_with_none (bound_fault p e))
 
     bounds : or_else (times_fault c 1 c.horizon.0) (patterns_fault (bound_fault_in wide) c)
@@ -262,7 +267,7 @@ form_case f c h =
     let facts = simp no_fault at h in
     simp no_fault ((facts.0, facts.1.1.0), (in_limit facts.1.1.1.0, in_limit facts.1.1.1.1))
   where
-    in_limit : {es : List Limit} → Every (BoundIn f) es → Every BoundInLimit es
+    in_limit : {es : List (Entry Limit)} → Every (BoundIn f) es → Every BoundInLimit es
     in_limit = every_map (λ e b. b.0)
 
 -- the network of a case without a fault is in the limits

@@ -13,14 +13,14 @@ use lib.Seq.{take_at, drop_at}
 use borrow.Author.Tests.{eqb-false}
 use Rattle.ints.proofs.Integers.{impossible}
 use Rattle.model.specs.Sizes.{most_departures, most_cycles, time_limit, pattern_size, wide_lead, horizon_width}
-use Rattle.model.specs.declared.Slot.{Slot}
+use Rattle.ints.specs.declared.Seconds.{Seconds}
 use Rattle.model.specs.declared.Case.{Case}
 use Rattle.model.specs.declared.Form.{Form}
 use Rattle.model.specs.declared.Fault.{Fault}
 use Rattle.model.specs.declared.Fault.TheVariants as fault
 use Rattle.model.specs.Forms.{old, wide, most_in, markless}
 use Rattle.model.specs.Network.{regular}
-use Rattle.model.specs.Faults.{time_of, beyond, outside, patterns_fault, case_fault, form_fault, room_fault, call_fault}
+use Rattle.model.specs.Faults.{Entry, time_of, beyond, outside, patterns_fault, case_fault, form_fault, room_fault, call_fault}
 use Rattle.model.specs.Packed.{Reading, got, refused, and_then, bit_at, num_at, bits, Kind, time_kind, bound_kind, unless_faulty, entry, entries, rows}
 use Rattle.model.specs.Packed.{fill, body, parse_as, parse}
 use Rattle.model.specs.Lists.{Every, done, both}
@@ -111,11 +111,11 @@ module _ {A : Type 0} (k : Kind A) (P : A → Type 0) (absent : P k.absent) (sou
 
 -- ---- rows
 -- before, with any k rows in their limit after it, is n rows in their limit
-abbrev Lacks : ℕ → ℕ → List Slot → Type 0
-Lacks n k before = (rest : List Slot) → RowsInLimit n k rest → RowsInLimit n n (before ++ rest)
+abbrev Lacks : ℕ → ℕ → List (Entry Seconds) → Type 0
+Lacks n k before = (rest : List (Entry Seconds)) → RowsInLimit n k rest → RowsInLimit n n (before ++ rest)
 
 -- one of the k rows, read after before
-one_less : (n k : ℕ) (before es : List Slot) → Every (InLimit time_limit) es → length es ≡ n → regular (map time_of es) ≡ true
+one_less : (n k : ℕ) (before es : List (Entry Seconds)) → Every (InLimit time_limit) es → length es ≡ n → regular (map time_of es) ≡ true
     → Lacks n (suc k) before → Lacks n k (before ++ es)
 one_less n k before es h l t lacks rest r =
     let is = take_at es rest n l in
@@ -123,7 +123,7 @@ one_less n k before es h l t lacks rest r =
 
 module _ (s : List ℕ) (n : ℕ) where
   -- rows that are read are in their limit, whatever stands after them
-  rows_give : (k p : ℕ) (before : List Slot) → Lacks n k before → Gives (λ es q. Lacks n 0 es) (rows s n k p before)
+  rows_give : (k p : ℕ) (before : List (Entry Seconds)) → Lacks n k before → Gives (λ es q. Lacks n 0 es) (rows s n k p before)
   unfolding rows beyond
   rows_give zero p before lacks = value lacks
   rows_give (suc k) p before lacks =

@@ -13,12 +13,12 @@ use lib.Seq.{take_all, length-take-le, get_or-take}
 use borrow.Author.Tests.{leb-true, leb-false, le-leb, ne_eqb}
 use Rattle.model.specs.Sizes.{most_departures, table_size, pattern_size, most_times, most_bounds}
 use Rattle.model.specs.Sizes.{wide_lead, wide_digits, horizon_width, time_width, bound_width, most_width, most_bits, most_bytes}
-use Rattle.model.specs.declared.Slot.{Slot}
+use Rattle.ints.specs.declared.Seconds.{Seconds}
 use Rattle.model.specs.declared.Form.{Form}
 use Rattle.model.specs.declared.Fault.{Fault}
 use Rattle.model.specs.Forms.{old, wide}
 use Rattle.model.specs.Network.{regular}
-use Rattle.model.specs.Faults.{time_of}
+use Rattle.model.specs.Faults.{Entry, time_of}
 use Rattle.model.specs.Packed.{Reading, got, refused, and_then, bit_at, num_at, bits, Kind, time_kind, bound_kind, unless_faulty, entry, entries, rows}
 use Rattle.model.specs.Packed.{zeros, fill, body, parse_as, parse}
 use Rattle.model.specs.Conditions.{FormLimits}
@@ -86,7 +86,7 @@ module _ (s t : List ℕ) (top : ℕ) (long : top ≤ 8 * length s) (long' : top
       agree_then (entry_agrees k p (omega arith)) (λ e q l.
       agree_later (omega arith) (entries_agree k count q (before ++ e ∷ []) (omega arith)))
 
-  rows_agree : (n count p : ℕ) (before : List Slot) → p + count * n * suc time_width ≤ top
+  rows_agree : (n count p : ℕ) (before : List (Entry Seconds)) → p + count * n * suc time_width ≤ top
       → Agree (p + count * n * suc time_width) (rows s n count p before) (rows t n count p before)
   unfolding rows
   rows_agree n zero p before h = value {q = p} (omega arith)

@@ -2,26 +2,25 @@
 use Prim.Native.Nat.{ℕ, zero, suc, ◌+◌, ◌-◌, ◌*◌, ◌≤◌}
 use native.Mathlib.Omega.{arith}
 use native.Mathlib.Nat.{zero-mul}
-use mathlib.Core.Path.{◌≡◌, refl, ap₂, ◌∙◌}
-use mathlib.Core.List.{List, [], ◌∷◌, ◌++◌, map, flat_map, map-append, append_assoc, append-nil}
-use mathlib.Core.Bool.{Bool, true, false, cond}
+use mathlib.Core.Path.{◌≡◌}
+use mathlib.Core.List.{List, [], ◌++◌, map, flat_map, append_assoc, append-nil}
 use mathlib.Core.Option.{none}
 use lib.Dec.{ltb, eqb}
 use lib.Pow.{pow_pos}
-use lib.ListN.{length, take, drop, replicate, length-append, length-map, length-drop}
-use lib.Seq.{take_at, take-add, length-take-le}
+use lib.ListN.{length, take, drop, replicate, length-append, length-drop}
+use lib.Seq.{take_at, take-add}
 use borrow.Author.Tests.{ltb-false, ne_eqb}
 use Rattle.model.specs.Sizes.{time_limit, table_size, pattern_size, horizon_width}
-use Rattle.model.specs.declared.Slot.{Slot}
+use Rattle.ints.specs.declared.Seconds.{Seconds}
 use Rattle.model.specs.declared.Limit.{Limit}
 use Rattle.model.specs.declared.Case.{Case}
 use Rattle.model.specs.declared.Form.{Form}
 use Rattle.model.specs.declared.Fault.TheVariants as fault
-use Rattle.model.specs.Lists.{padded, Every}
+use Rattle.model.specs.Lists.{Every}
 use Rattle.model.specs.Network.{regular}
-use Rattle.model.specs.Faults.{time_of, outside, patterns_fault, form_fault}
-use Rattle.model.specs.Packed.{got, Kind, time_kind, bound_kind, entries, rows, case_of, body, parse_as}
-use Rattle.model.specs.Writing.{field_bits, entries_bits, all_bounds, table_bits, case_bits, tidy, tidied, Whole}
+use Rattle.model.specs.Faults.{Entry, time_of, outside, patterns_fault, form_fault}
+use Rattle.model.specs.Packed.{got, time_kind, bound_kind, entries, rows, case_of, body, parse_as}
+use Rattle.model.specs.Writing.{field_bits, entries_bits, all_bounds, table_bits, case_bits, tidied, Whole}
 use Rattle.model.specs.Conditions.{FormLimits, InLimit, BoundIn}
 use Rattle.model.proofs.Listed.{every_map}
 use Rattle.model.proofs.Limits.{over_none, bound_fault_in_none, RowsInLimit, no_row, row, no_fault}
@@ -31,33 +30,17 @@ use Rattle.model.proofs.Inverse.{bits_append, entries_split, first_of, first_spe
 use Rattle.model.proofs.Complement.{time_lawful, bound_lawful}
 use Rattle.model.proofs.Bytes.{missing, filled, fill_of, fill_spells}
 
--- what is said of an absent entry whatever its value is said of entries without the values that are ignored
-module _ {A Y : Type 0} (k : Kind A) (g : A → Y) (absent : (e : A) → k.has e ≡ false → g k.absent ≡ g e) where
-  tidy_same : (e : A) (t : Bool) → k.has e ≡ t → g (cond t e k.absent) ≡ g e
-  tidy_same e true h = refl
-  tidy_same e false h = absent e h
-
-  tidied_same : (es : List A) → map g (map (tidy k) es) ≡ map g es
-  tidied_same [] = refl
-  tidied_same (e ∷ es) = ap₂ ◌∷◌ (tidy_same e (k.has e) refl) (tidied_same es)
-
-  -- and of the first count of them, once they stand in an array
-  pub padded_same : (size count : ℕ) (es : List A) → count ≤ length es
-      → map g (take count (padded k.absent size (map (tidy k) (take count es)))) ≡ map g (take count es)
-  padded_same size count es long =
-      let size_is = length-map (take count es) (tidy k) ∙ length-take-le count es long in
-      rw (take_at (map (tidy k) (take count es)) _ count size_is) (tidied_same (take count es))
-
 -- ---- rows
 module _ (s : List ℕ) (n : ℕ) where
   -- times in their limit are read where they are written
-  times_of_lem : {p q : ℕ} (count : ℕ) (es : List Slot) → count ≤ length es → Every (InLimit time_limit) (take count es)
-      → Spells s p (entries_bits time_kind (take count es)) q → entries time_kind s count p [] ≡ got (map (tidy time_kind) (take count es)) q
+  times_of_lem : {p q : ℕ} (count : ℕ) (es : List (Entry Seconds)) → count ≤ length es → Every (InLimit time_limit) (take count es)
+      → Spells s p (entries_bits time_kind (take count es)) q → entries time_kind s count p [] ≡ got (take count es) q
   times_of_lem count es long h = first_of time_kind time_lawful s count es long (every_map (λ e l p. (over_none time_limit fault.Time p e).1 l) h)
 
   -- rows in their limits are read where they are written
-  rows_of : {r p q : ℕ} {es : List Slot} (before : List Slot) → RowsInLimit n r es → r * n ≤ length es → Spells s p (entries_bits time_kind (take (r * n) es)) q
-      → rows s n r p before ≡ got (before ++ map (tidy time_kind) (take (r * n) es)) q
+  rows_of : {r p q : ℕ} {es : List (Entry Seconds)} (before : List (Entry Seconds)) → RowsInLimit n r es → r * n ≤ length es
+      → Spells s p (entries_bits time_kind (take (r * n) es)) q
+      → rows s n r p before ≡ got (before ++ take (r * n) es) q
   unfolding rows entries_bits flat_map time_of
   rows_of {p} {q} before no_row long t =
       let e : q ≡ p = omega (arith, ends (rw (zero-mul n) at t)) in
@@ -69,11 +52,11 @@ module _ (s : List ℕ) (n : ℕ) where
       let whole : take (suc r * n) es ≡ now ++ later = rw e (take-add n (r * n) es) in
       let (m, x, y) = entries_split time_kind now later (rw whole at t) in
       let first = times_of_lem n es (omega arith) inside x in
-      let others = rows_of (before ++ map (tidy time_kind) now) rest (omega (arith, length-drop n es)) y in
-      rw (first, tidied_same time_kind time_of (λ e h. rw h) now, reg, others, whole, map-append, append_assoc)
+      let others = rows_of (before ++ now) rest (omega (arith, length-drop n es)) y in
+      rw (first, reg, others, whole, append_assoc)
 
   -- rows that are read after those of before, whose bits start at place first: m entries in all
-  rows_spell : (m k first p : ℕ) (before : List Slot) → Spells s first (entries_bits time_kind before) p → length before + k * n ≡ m
+  rows_spell : (m k first p : ℕ) (before : List (Entry Seconds)) → Spells s first (entries_bits time_kind before) p → length before + k * n ≡ m
       → Gives (λ es q. Spells s first (entries_bits time_kind es) q × (length es ≡ m)) (rows s n k p before)
   unfolding rows
   rows_spell m zero first p before h e = value {a = before} (h, omega arith)
@@ -86,7 +69,7 @@ module _ (s : List ℕ) (n : ℕ) where
 -- ---- the case in a form
 module _ (f : Form) where
   -- the bits of a case that is made of lists of the right length
-  made : (n m : ℕ) (times : List Slot) (start target : List Limit)
+  made : (n m : ℕ) (times : List (Entry Seconds)) (start target : List (Entry Limit))
       → length times ≡ table_size n → length start ≡ pattern_size n → length target ≡ pattern_size n
       → case_bits f (case_of n (m + 1) times start target)
       ≡ field_bits f.lead 0 ++ field_bits f.digits n ++ field_bits horizon_width m ++ entries_bits time_kind times
@@ -98,8 +81,8 @@ module _ (f : Form) where
 
 module _ {f : Form} (lim : FormLimits f) (s : List ℕ) where
   -- the bounds of a pattern that the form has a place for are read where they are written
-  bounds_of : {p q : ℕ} (count : ℕ) (es : List Limit) → count ≤ length es → Every (BoundIn f) (take count es)
-      → Spells s p (entries_bits (bound_kind f) (take count es)) q → entries (bound_kind f) s count p [] ≡ got (map (tidy (bound_kind f)) (take count es)) q
+  bounds_of : {p q : ℕ} (count : ℕ) (es : List (Entry Limit)) → count ≤ length es → Every (BoundIn f) (take count es)
+      → Spells s p (entries_bits (bound_kind f) (take count es)) q → entries (bound_kind f) s count p [] ≡ got (take count es) q
   bounds_of count es long h = first_of (bound_kind f) (bound_lawful lim) s count es long (every_map (λ e b p. (bound_fault_in_none f p e).1 b) h)
 
   -- the bits of a case are read as the case without what is ignored

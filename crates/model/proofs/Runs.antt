@@ -11,7 +11,8 @@ use Rattle.ints.proofs.Integers.{up, dn, ints, sub_ud, pos_ud, abs_ud}
 use Rattle.model.specs.Sizes.{most_departures, most_cycles, start_limit}
 use Rattle.ints.specs.declared.Seconds.{Seconds}
 use Rattle.model.specs.declared.Case.{Case}
-use Rattle.model.specs.declared.Judged.TheVariants as judged
+use Rattle.std.specs.Prelude.{Ok}
+use Rattle.model.specs.declared.StartTimes.{StartTimes}
 use Rattle.model.specs.declared.Verdict.TheVariants as verdict
 use Rattle.model.specs.Lists.{Every}
 use Rattle.model.specs.Bound.{Bound, bit, scale, whole}
@@ -79,16 +80,16 @@ module _ (w : Network) (limits : Limits w) where
       let room = most_zone w.n k limits.table.departures.few h in
       fitting_left (pattern_constraints w.n w.start) (made_meetable w.start limits.start_small (omega arith) room m) c
 
-  reached_small : {capacity : ℕ} {o : Outcome} → Concluded w capacity o → (k : ℕ) → (answered o).verdict ≡ verdict.Reached (cycle_number k)
-      → StartsSmall (take w.n (answered o).start)
-  reached_small c k e =
-      let r = reached_only c k e in
+  reached_small : {capacity : ℕ} {o : Outcome} → Concluded w capacity o → (k : ℕ) (s : StartTimes)
+      → answered o ≡ Ok (verdict.Reached (cycle_number k) s) → StartsSmall (take w.n s.times)
+  reached_small c k s e =
+      let r = reached_only c k s e in
       let parts = parts_of w in
       let few = limits.table.departures.few in
       let enough = parts_enough w k (first_common_lem w k r.in_common) in
       let bounded = common_bounded k (omega (arith, r.is_first.to_horizon, limits.few_cycles)) r.in_common in
       let limit = start_limit_lem w.n parts few (parts_few w few) in
-      rw (r.is, first_times w.n _ (start_length w.n parts r.zone enough))
+      rw (r.start_is, first_times w.n _ (start_length w.n parts r.zone enough))
       (map_every seconds (every_map (λ x h. omega arith) (times_small w.n parts r.zone enough bounded)))
 
 -- ---- runs
@@ -99,21 +100,20 @@ run_whole c xs k = ap (λ (w : Network). ran (run_fault c xs k) (cycles c.n w.ti
 
 -- without a fault it gives the times of the definition
 pub run_accepted : (c : Case) (xs : List Seconds) (k : ℕ) → run_fault c xs k ≡ none →
-    run c xs k ≡ record { judged = judged.Accepted; times = all_times (cycles c.n (network c).times k (map (λ x. x.0) (take c.n xs))) }
+    run c xs k ≡ Ok (all_times (cycles c.n (network c).times k (map (λ x. x.0) (take c.n xs))))
 unfolding run
 run_accepted c xs k h = rw (h, run)
 
 module _ (c : Case) (capacity size : ℕ) (limits : InLimits c capacity size) where
-  start_small : (k : ℕ) → (answer c capacity size).verdict ≡ verdict.Reached (cycle_number k) → StartsSmall (take c.n (answer c capacity size).start)
+  start_small : (k : ℕ) (s : StartTimes) → answer c capacity size ≡ Ok (verdict.Reached (cycle_number k) s) → StartsSmall (take c.n s.times)
   unfolding network
   start_small =
       let l = limits_of c capacity size limits in
       rw (answer_in c capacity size limits) (reached_small (network c) l (conclusion (network c) capacity l.table.regular l.table.departures.some))
 
   -- a run in the answer's parts accepts the start, for every cycle in its limit, and its times are those of the definition
-  pub start_runs : (k j : ℕ) → (answer c capacity size).verdict ≡ verdict.Reached (cycle_number k) → j ≤ most_cycles
-      → let r = answer c capacity size in
-      let ts = cycles c.n (in_parts r.parts (network c)).times j (map (λ x. x.0) (take c.n r.start)) in
-      run_in_parts r.parts c r.start j ≡ record { judged = judged.Accepted; times = all_times ts }
+  pub start_runs : (k j : ℕ) (s : StartTimes) → answer c capacity size ≡ Ok (verdict.Reached (cycle_number k) s) → j ≤ most_cycles
+      → let ts = cycles c.n (in_parts s.parts (network c)).times j (map (λ x. x.0) (take c.n s.times)) in
+      run_in_parts s.parts c s.times j ≡ Ok (all_times ts)
   unfolding run_in_parts
-  start_runs k j e h = rw (run_without c capacity size limits _ j h (start_small k e), run_in_parts)
+  start_runs k j s e h = rw (run_without c capacity size limits _ j h (start_small k s e), run_in_parts)

@@ -2,14 +2,14 @@
 use Prim.Native.Nat.{ℕ, suc, ◌-◌, ◌<◌}
 use native.Mathlib.Omega.{arith}
 use mathlib.Core.Path.{◌≡◌, refl, sym, ◌∙◌}
-use mathlib.Core.Bool.{true, false, cond}
+use Rattle.std.specs.Prelude.{Some, None, is_some}
 use mathlib.Core.List.{List, [], ◌∷◌, ◌++◌, append_assoc}
 use lib.ListN.{length, set, replicate, length-append}
 use lib.Seq.{set_at}
-use Rattle.model.specs.declared.Slot.{Slot}
+use Rattle.ints.specs.declared.Seconds.{Seconds}
 use Rattle.model.specs.Lists.{padded}
-use Rattle.model.specs.Network.{blank, secs, is_time}
-use Rattle.model.specs.Faults.{time_of}
+use Rattle.model.specs.Network.{is_time}
+use Rattle.model.specs.Faults.{Entry, time_of}
 
 -- one more value, in the first place that is still free
 pub padded_set : {X : Type 0} (z : X) (size i : ℕ) (es : List X) (e : X) → length es ≡ i → i < size
@@ -20,6 +20,7 @@ padded_set z size i es e l h =
     ∙ sym (append_assoc es (e ∷ []) (replicate (size - length (es ++ e ∷ [])) z))
 
 -- an entry is a time where it is present
-pub has_time : (e : Slot) → is_time (time_of e) ≡ e.has
+pub has_time : (e : Entry Seconds) → is_time (time_of e) ≡ is_some e
 unfolding is_time time_of
-has_time e = elim e.has as (λ b. is_time (cond b (secs e.value.0) blank) ≡ b) [ true ↦ refl | false ↦ refl ]
+has_time None = refl
+has_time (Some x) = refl

@@ -5,11 +5,12 @@ use native.Mathlib.Numerals.{add-one, one-add}
 use mathlib.Core.Path.{◌≡◌, refl, sym, ap, ◌∙◌}
 use mathlib.Core.List.{List, [], ◌∷◌, ◌++◌}
 use lib.IntN.{nat_abs, ◌+ℤ◌}
+use Rattle.std.specs.Prelude.{None}
 use Rattle.ints.proofs.Integers.{ints, add_ud, abs_ud}
 use Rattle.model.specs.Sizes.{time_limit}
 use Rattle.model.specs.Lists.{tabulate, Every, done, both}
 use Rattle.model.specs.Network.{Time, blank, secs, time, later, latest, after, secs_of}
-use Rattle.model.specs.Faults.{time_of, nothing}
+use Rattle.model.specs.Faults.{time_of}
 use Rattle.model.specs.Conditions.{TimesSmall}
 use Rattle.model.proofs.Listed.{every_get_d}
 use Rattle.model.proofs.Tabulated.{tabulate_snoc}
@@ -21,7 +22,7 @@ unfolding latest
 latest_snoc [] t = later_comm t blank
 latest_snoc (u ∷ ts) t = rw (latest_snoc ts t) (sym (later_assoc u (latest ts) t))
 
-pub latest_of_none : (f : ℕ → Time) → time_of nothing ≡ latest_of 0 f
+pub latest_of_none : (f : ℕ → Time) → time_of None ≡ latest_of 0 f
 unfolding time_of latest tabulate
 latest_of_none f = refl
 

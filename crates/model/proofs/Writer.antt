@@ -9,7 +9,7 @@ use mathlib.Core.Bool.{true, false, cond}
 use mathlib.Core.Option.{Option, none, some}
 use lib.IntN.{ℤ}
 use lib.ListN.{length, get_or, take, length-append, length-take}
-use lib.Seq.{take_at}
+use lib.Seq.{take_at, length-take-le}
 use borrow.Author.Tests.{lt-ltb, le-leb, ne_eqb}
 use Rattle.ints.proofs.Integers.{impossible}
 use Rattle.model.specs.Sizes.{table_size, pattern_size, most_bounds, old_digits, wide_lead, horizon_width, bound_width, most_width, most_bytes}
@@ -17,17 +17,16 @@ use Rattle.model.specs.declared.Case.{Case}
 use Rattle.model.specs.declared.Form.{Form}
 use Rattle.model.specs.declared.Fault.{Fault}
 use Rattle.model.specs.declared.Fault.TheVariants as fault
-use Rattle.model.specs.declared.Written.TheVariants as written
-use Rattle.model.specs.declared.Judged.TheVariants as judged
-use Rattle.model.specs.declared.Answer.{Answer}
+use Rattle.model.specs.declared.Verdict.{Verdict}
 use Rattle.model.specs.Forms.{old, wide, most_in}
-use Rattle.model.specs.Lists.{Every, done, both}
+use Rattle.std.specs.Prelude.{Result, Ok, Err, None}
+use Rattle.model.specs.Lists.{padded, Every, done, both}
 use Rattle.model.specs.Network.{Network}
 use Rattle.model.specs.Search.{outcome}
 use Rattle.model.specs.Conditions.{Departures, FormLimits}
-use Rattle.model.specs.Faults.{time_of, bound_of, network, outside, table_fault, form_fault, case_fault, call_fault}
+use Rattle.model.specs.Faults.{network, outside, table_fault, form_fault, case_fault, call_fault}
 use Rattle.model.specs.Packed.{got, refused, num_of, bits, Kind, time_kind, bound_kind, parse_as, parse}
-use Rattle.model.specs.Answers.{refusal, answered, answer, answer_packed, workspace_after, workspace_after_packed, unpacked}
+use Rattle.model.specs.Answers.{answered, answer, answer_packed, workspace_after, workspace_after_packed, outcome_of}
 use Rattle.model.specs.Writing.{field_bits, bytes_of, entry_bits, entries_bits, all_bounds, table_bits, case_bits, packed_as, tidied, Whole}
 use Rattle.model.specs.Writing.{room_for, write_fault, told, output_after}
 use Rattle.model.proofs.Listed.{every_append, every_tabulate, every_all, flat_map_every, at_get_d}
@@ -37,7 +36,7 @@ use Rattle.model.proofs.Digits.{num_below}
 use Rattle.model.proofs.Parsed.{Agreed, old_form, wide_form, agreed_limits, given, parsed_form, parsed_call}
 use Rattle.model.proofs.Spelled.{Spells, ends, split, length_field, bits_of}
 use Rattle.model.proofs.Bytes.{length_bytes, bytes_spell, bytes_of_lem}
-use Rattle.model.proofs.RoundTrip.{padded_same, parse_of, parse_spells}
+use Rattle.model.proofs.RoundTrip.{parse_of, parse_spells}
 
 -- ---- the bits: each is 0 or 1, and they are few
 field_small : (w v : ℕ) → Every (λ b. b ≤ 1) (field_bits w v)
@@ -174,13 +173,18 @@ wide_refuses c h =
     rw ((old_front c few.1).1, lt-ltb 0 c.n few.0)
 
 -- ---- reading what is written
+-- the first entries of an array, once they stand in front of another
+padded_front : {A : Type 0} (z : A) (size count : ℕ) (es : List A) → count ≤ length es
+    → take count (padded z size (take count es)) ≡ take count es
+padded_front z size count es long = take_at (take count es) _ count (length-take-le count es long)
+
 -- what is ignored is no part of the network
 network_tidied : (c : Case) → Whole c → network (tidied c) ≡ network c
-unfolding network tidied time_of bound_of
+unfolding network tidied
 network_tidied c whole = rw (
-  padded_same time_kind time_of (λ e h. rw h) most_bounds (table_size c.n) c.times whole.times,
-  padded_same (bound_kind wide) bound_of (λ e h. rw h) most_bounds (pattern_size c.n) c.start whole.start,
-  padded_same (bound_kind wide) bound_of (λ e h. rw h) most_bounds (pattern_size c.n) c.target whole.target,
+  padded_front None most_bounds (table_size c.n) c.times whole.times,
+  padded_front None most_bounds (pattern_size c.n) c.start whole.start,
+  padded_front None most_bounds (pattern_size c.n) c.target whole.target,
 )
 
 module _ {f : Form} (agreed : Agreed f) (c : Case) (h : form_fault f c ≡ none) (whole : Whole c) where
@@ -197,7 +201,7 @@ module _ {f : Form} (agreed : Agreed f) (c : Case) (h : form_fault f c ≡ none)
   pub written_verdict : (capacity size : ℕ) → answer_packed (packed_as f c) capacity size ≡ answer c capacity size
   unfolding answer_packed answer
   written_verdict capacity size =
-      let settle : Option Fault → Network → Answer = λ o w. elim o [ some f ↦ refusal f | none ↦ answered (outcome w capacity) ] in
+      let settle : Option Fault → Network → Result Verdict Fault = λ o w. elim o [ some f ↦ Err f | none ↦ answered (outcome w capacity) ] in
       rw (restored, answer_packed) (ap₂ settle (call_tidied capacity size) (network_tidied c whole))
 
   -- and so is the workspace afterwards
@@ -208,13 +212,13 @@ module _ {f : Form} (agreed : Agreed f) (c : Case) (h : form_fault f c ≡ none)
 -- where a writer says how many bytes it put into the output, a reader makes of these bytes the case without what is ignored
 pub read_back : {f : Form} → Agreed f → (c : Case) → (case_fault c ≡ none → Whole c) → (out : List ℕ) (count : ℕ)
     → let fault = write_fault f c (length out) in
-    told fault (packed_as f c) ≡ written.Bytes count
-    → unpacked (parse (take count (output_after fault (packed_as f c) out))) ≡ record { judged = judged.Accepted; case = tidied c }
+    told fault (packed_as f c) ≡ Ok count
+    → outcome_of (parse (take count (output_after fault (packed_as f c) out))) ≡ Ok (tidied c)
 unfolding write_fault told output_after
 read_back {f} agreed c whole out count = go (write_fault f c (length out)) refl
   where
-    go : (o : Option Fault) → write_fault f c (length out) ≡ o → told o (packed_as f c) ≡ written.Bytes count
-        → unpacked (parse (take count (output_after o (packed_as f c) out))) ≡ record { judged = judged.Accepted; case = tidied c }
+    go : (o : Option Fault) → write_fault f c (length out) ≡ o → told o (packed_as f c) ≡ Ok count
+        → outcome_of (parse (take count (output_after o (packed_as f c) out))) ≡ Ok (tidied c)
     go none e t =
         let all : length (packed_as f c) ≡ count = cc in
         let sound = (simp or_else_none at e).0 in

@@ -1,7 +1,7 @@
 -- Conditions that the contracts inside the library name. The demands do not rest on them.
 use Rattle.std.specs.Prelude.{ℕ, zero, suc, ◌*◌, ◌≤◌, ◌<◌, ◌≡◌, List, [], ◌∷◌, map, Bool, false, ◌&&◌, ℤ, pos, neg_ℤ, nat_abs, ◌+ℤ◌, length, get_or}
 use Rattle.std.proofs.Math.Option.{Option, some}
-use Rattle.model.specs.declared.Slot.{Slot}
+use Rattle.ints.specs.declared.Seconds.{Seconds}
 use Rattle.model.specs.declared.Limit.{Limit}
 use Rattle.model.specs.declared.Form.{Form}
 use Rattle.model.specs.Sizes.{most_departures, most_cycles, time_limit, bound_limit, wide_lead, wide_digits, wide_mark}
@@ -12,7 +12,7 @@ use Rattle.model.specs.Matrix.{Matrix, entry, Member, everything, Constraint, co
 use Rattle.model.specs.Pattern.{pair_bound, pattern_constraints}
 use Rattle.model.specs.Network.{Time, secs, scale_time, Network, time, next}
 use Rattle.model.specs.Search.{chosen, rows_constraints, tightest}
-use Rattle.model.specs.Faults.{stated, beyond}
+use Rattle.model.specs.Faults.{Entry, stated, marked, beyond}
 
 -- ---- departures
 pub record Departures (n : ℕ) : Type 0 where
@@ -81,16 +81,16 @@ pub record Limits (w : Network) : Type 0 where
   pub target_small : PatternSmall w.n bound_limit w.target
 
 -- it is absent, or at most limit in size
-abbrev pub InLimit : ℕ → Slot → Type 0
+abbrev pub InLimit : ℕ → Entry Seconds → Type 0
 InLimit limit e = beyond limit e ≡ false
 
 -- of a bound
-abbrev pub BoundInLimit : Limit → Type 0
+abbrev pub BoundInLimit : Entry Limit → Type 0
 BoundInLimit e = InLimit bound_limit (stated e)
 
 -- for a form: also, it is not strict where the form has no place for its mark
-abbrev pub BoundIn : Form → Limit → Type 0
-BoundIn f e = BoundInLimit e × ((markless f && (e.has && e.strict)) ≡ false)
+abbrev pub BoundIn : Form → Entry Limit → Type 0
+BoundIn f e = BoundInLimit e × ((markless f && marked e) ≡ false)
 
 -- each limit is at most B in size
 abbrev pub AllSmall : ℕ → List Constraint → Type 0

@@ -1,9 +1,8 @@
 -- Cases that are converted: one list, one claim.
-use Rattle.std.specs.Prelude.{ℕ, ◌≡◌, refl, length, replicate}
+use Rattle.std.specs.Prelude.{Result, Ok, Err, ℕ, ◌≡◌, refl, length, replicate}
 use mathlib.Core.List.{List, [], ◌∷◌, ◌++◌}
 use Rattle.model.specs.declared.Form.{Form}
-use Rattle.model.specs.declared.Written.{Written}
-use Rattle.model.specs.declared.Written.TheVariants as written
+use Rattle.model.specs.declared.Fault.{Fault}
 use Rattle.model.specs.declared.Fault.TheVariants as fault
 use Rattle.model.specs.Forms.{old, wide}
 use Rattle.model.specs.Lists.{tabulate, any_of}
@@ -15,11 +14,11 @@ use Rattle.model.specs.Converting.{loss_fault, convert_fault, converted, output_
 
 -- from a form to a form: the input, the output before, what the converter answers, the output afterwards
 pub data Vector : Type 0 where
-  converts : Form → Form → List ℕ → List ℕ → Written → List ℕ → Vector
+  converts : Form → Form → List ℕ → List ℕ → Result ℕ Fault → List ℕ → Vector
 
 abbrev pub Right : Vector → Type 0
 Right (converts from to s before answer after) =
-    ◌≡◌ {A = Written × List ℕ} (converted from to s (length before), output_after_conversion from to s before) (answer, after)
+    ◌≡◌ {A = Result ℕ Fault × List ℕ} (converted from to s (length before), output_after_conversion from to s before) (answer, after)
 
 abbrev pub AllRight : List Vector → Type 0
 AllRight [] = Unit {0}
@@ -49,16 +48,16 @@ eight_bytes =
 -- n, before a strict bound; the case ends, before all else
 abbrev pub vectors : List Vector
 vectors =
-    converts old wide old_bytes (1 ∷ 2 ∷ 3 ∷ 4 ∷ 5 ∷ 6 ∷ []) (written.Bytes 5) (0x02 ∷ 0x04 ∷ 0x00 ∷ 0x3C ∷ 0x00 ∷ 6 ∷ [])
-    ∷ converts wide old wide_bytes (1 ∷ 2 ∷ 3 ∷ 4 ∷ 5 ∷ []) (written.Bytes 4) (0x20 ∷ 0x40 ∷ 0x03 ∷ 0xC0 ∷ 5 ∷ [])
-    ∷ converts old wide old_bytes (1 ∷ 2 ∷ 3 ∷ 4 ∷ []) (written.Refused (fault.Output 5)) (1 ∷ 2 ∷ 3 ∷ 4 ∷ [])
-    ∷ converts wide old wide_bytes (1 ∷ 2 ∷ 3 ∷ []) (written.Refused (fault.Output 4)) (1 ∷ 2 ∷ 3 ∷ [])
-    ∷ converts old wide wide_bytes (1 ∷ 2 ∷ []) (written.Refused fault.Departures) (1 ∷ 2 ∷ [])
-    ∷ converts wide old old_bytes (1 ∷ 2 ∷ []) (written.Refused fault.Departures) (1 ∷ 2 ∷ [])
-    ∷ converts wide old strict_bytes (1 ∷ 2 ∷ []) (written.Refused (fault.Form 33)) (1 ∷ 2 ∷ [])
-    ∷ converts wide old later_bytes [] (written.Refused (fault.Form 57)) []
-    ∷ converts wide old eight_bytes [] (written.Refused (fault.Form 3)) []
-    ∷ converts wide old (0x02 ∷ []) [] (written.Refused (fault.CaseEnds 7)) []
+    converts old wide old_bytes (1 ∷ 2 ∷ 3 ∷ 4 ∷ 5 ∷ 6 ∷ []) (Ok 5) (0x02 ∷ 0x04 ∷ 0x00 ∷ 0x3C ∷ 0x00 ∷ 6 ∷ [])
+    ∷ converts wide old wide_bytes (1 ∷ 2 ∷ 3 ∷ 4 ∷ 5 ∷ []) (Ok 4) (0x20 ∷ 0x40 ∷ 0x03 ∷ 0xC0 ∷ 5 ∷ [])
+    ∷ converts old wide old_bytes (1 ∷ 2 ∷ 3 ∷ 4 ∷ []) (Err (fault.Output 5)) (1 ∷ 2 ∷ 3 ∷ 4 ∷ [])
+    ∷ converts wide old wide_bytes (1 ∷ 2 ∷ 3 ∷ []) (Err (fault.Output 4)) (1 ∷ 2 ∷ 3 ∷ [])
+    ∷ converts old wide wide_bytes (1 ∷ 2 ∷ []) (Err fault.Departures) (1 ∷ 2 ∷ [])
+    ∷ converts wide old old_bytes (1 ∷ 2 ∷ []) (Err fault.Departures) (1 ∷ 2 ∷ [])
+    ∷ converts wide old strict_bytes (1 ∷ 2 ∷ []) (Err (fault.Form 33)) (1 ∷ 2 ∷ [])
+    ∷ converts wide old later_bytes [] (Err (fault.Form 57)) []
+    ∷ converts wide old eight_bytes [] (Err (fault.Form 3)) []
+    ∷ converts wide old (0x02 ∷ []) [] (Err (fault.CaseEnds 7)) []
     ∷ []
 
 pub all_right : AllRight vectors

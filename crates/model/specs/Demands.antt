@@ -1,11 +1,13 @@
 -- The three demands and request [9]'s limits, as types over the definitions.
-use Rattle.std.specs.Prelude.{ℕ, suc, ◌-◌, ◌<◌, ◌≤◌, ◌≡◌, ◌↔◌, ◌⊎◌, true, ◌||◌, List, [], map, ℤ, pos, length, take, replicate}
+use Rattle.std.specs.Prelude.{Result, Ok, Err, ℕ, suc, ◌-◌, ◌<◌, ◌≤◌, ◌≡◌, ◌↔◌, ◌⊎◌, true, ◌||◌, List, [], map, ℤ, pos, length, take, replicate}
 use Rattle.std.proofs.Math.Option.{none, some}
 use Rattle.model.specs.declared.Case.{Case}
 use Rattle.model.specs.declared.Fault.{Fault}
 use Rattle.model.specs.declared.Fault.TheVariants as fault
 use Rattle.model.specs.declared.Verdict.TheVariants as verdict
-use Rattle.model.specs.declared.Answer.{Answer}
+use Rattle.model.specs.declared.Verdict.{Verdict}
+use Rattle.model.specs.declared.StartTimes.{StartTimes}
+use Rattle.model.specs.declared.Numbers.{Numbers}
 use Rattle.model.specs.Sizes.{few_departures, most_departures, most_cycles, list_limit}
 use Rattle.model.specs.Lists.{Every}
 use Rattle.model.specs.Matrix.{Matrix}
@@ -15,7 +17,7 @@ use Rattle.model.specs.Search.{lists, parts_of, plan}
 use Rattle.model.specs.Conditions.{Small}
 use Rattle.model.specs.Faults.{number, network, call_fault, room_fault}
 use Rattle.model.specs.Packed.{got, refused, parse}
-use Rattle.model.specs.Answers.{cycle_number, Numbers, numbers_of, refusal, answer, workspace_after, answer_packed, workspace_after_packed}
+use Rattle.model.specs.Answers.{cycle_number, numbers_of, answer, workspace_after, answer_packed, workspace_after_packed}
 
 -- a case is within the limits if the call meets none of faults 1 to 10
 abbrev pub InLimits : Case → ℕ → ℕ → Type 0
@@ -29,9 +31,9 @@ pub data Ended : Numbers → Type 0 where
   is_table_full : (k : ℕ) → Ended (record { kind = 0; fault = 11; value = k })
 
 -- of the answer r to a call with this workspace, and the workspace afterwards
-pub record Demand1 (c : Case) (capacity : ℕ) (work : List ℤ) (r : Answer) (after : List ℤ) : Type 0 where
-  pub ends : InLimits c capacity (length work) → Ended (numbers_of r.verdict) × (after ≡ replicate (length work) (pos 0))
-  pub refuses : (f : Fault) → call_fault c capacity (length work) ≡ some f → (r ≡ refusal f) × (after ≡ work)
+pub record Demand1 (c : Case) (capacity : ℕ) (work : List ℤ) (r : Result Verdict Fault) (after : List ℤ) : Type 0 where
+  pub ends : InLimits c capacity (length work) → Ended (numbers_of r) × (after ≡ replicate (length work) (pos 0))
+  pub refuses : (f : Fault) → call_fault c capacity (length work) ≡ some f → (r ≡ Err f) × (after ≡ work)
 
 -- xs is a start in the start pattern whose k-step image is in the target
 pub record Witness (w : Network) (k : ℕ) (xs : List ℤ) : Type 0 where
@@ -73,15 +75,19 @@ pub record EndsAt (w : Network) (capacity k : ℕ) : Type 0 where
 abbrev pub FullAt : Network → ℕ → ℕ → Type 0
 FullAt w capacity k = EndsAt w capacity k × (capacity < length (lists w k))
 
+-- the answer is reached at k, with some start
+abbrev pub Reaches : ℕ → Result Verdict Fault → Type 0
+Reaches k r = (s : StartTimes) × (r ≡ Ok (verdict.Reached (cycle_number k) s))
+
 -- of the answer r, for a case within the limits
-pub record Demand2 (c : Case) (capacity : ℕ) (r : Answer) : Type 0 where
-  pub first : (k : ℕ) → r.verdict ≡ verdict.Reached (cycle_number k) → First (network c) k
-  pub exactly : (EndsEarly (network c) capacity → ⊥) → (k : ℕ) → (r.verdict ≡ verdict.Reached (cycle_number k)) ↔ First (network c) k
-  pub start : (k : ℕ) → r.verdict ≡ verdict.Reached (cycle_number k)
-      → (r.parts ≡ parts_of (network c)) × Witness (in_parts r.parts (network c)) k (map (λ x. x.0) (take c.n r.start))
+pub record Demand2 (c : Case) (capacity : ℕ) (r : Result Verdict Fault) : Type 0 where
+  pub first : (k : ℕ) → Reaches k r → First (network c) k
+  pub exactly : (EndsEarly (network c) capacity → ⊥) → (k : ℕ) → Reaches k r ↔ First (network c) k
+  pub start : (k : ℕ) (s : StartTimes) → r ≡ Ok (verdict.Reached (cycle_number k) s)
+      → (s.parts ≡ parts_of (network c)) × Witness (in_parts s.parts (network c)) k (map (λ x. x.0) (take c.n s.times))
   pub otherwise : (EndsEarly (network c) capacity → ⊥) → NotBefore (network c) (suc c.horizon.0)
-      → (r.verdict ≡ verdict.Clear c.horizon) ⊎ (r.verdict ≡ verdict.Never)
-  pub full : (k : ℕ) → (r.verdict ≡ verdict.Refused (fault.TableFull (cycle_number k))) ↔ FullAt (network c) capacity k
+      → (r ≡ Ok (verdict.Clear c.horizon)) ⊎ (r ≡ Ok verdict.Never)
+  pub full : (k : ℕ) → (r ≡ Err (fault.TableFull (cycle_number k))) ↔ FullAt (network c) capacity k
 
 -- start or target bounds only differences
 abbrev pub Differences : Network → Type 0
@@ -120,32 +126,32 @@ pub record NeverHolds (w : Network) (capacity : ℕ) : Type 0 where
   pub not_early : EndsEarly w capacity → ⊥
 
 -- of the answer r, for a case within the limits
-pub record Demand3 (c : Case) (capacity : ℕ) (r : Answer) : Type 0 where
+pub record Demand3 (c : Case) (capacity : ℕ) (r : Result Verdict Fault) : Type 0 where
   pub beyond : (again : Repeat) → LeastRepeat (network c) again → Differences (network c) → NotBefore (network c) again.q
       → (k : ℕ) → 1 ≤ k → Met (network c) k → ⊥
   pub dry_beyond : RunsDry (network c) → (k : ℕ) → 1 ≤ k → Met (network c) k → ⊥
-  pub exactly : (r.verdict ≡ verdict.Never) ↔ NeverHolds (network c) capacity
-  pub clear : r.verdict ≡ verdict.Clear c.horizon → (Repeats (network c) → ⊥) × (RunsDry (network c) → ⊥)
-  pub without_end : r.verdict ≡ verdict.Never → (k : ℕ) → 1 ≤ k → Met (network c) k → ⊥
+  pub exactly : (r ≡ Ok verdict.Never) ↔ NeverHolds (network c) capacity
+  pub clear : r ≡ Ok (verdict.Clear c.horizon) → (Repeats (network c) → ⊥) × (RunsDry (network c) → ⊥)
+  pub without_end : r ≡ Ok verdict.Never → (k : ℕ) → 1 ≤ k → Met (network c) k → ⊥
 
-pub record Demands (c : Case) (capacity : ℕ) (work : List ℤ) (r : Answer) (after : List ℤ) : Type 0 where
+pub record Demands (c : Case) (capacity : ℕ) (work : List ℤ) (r : Result Verdict Fault) (after : List ℤ) : Type 0 where
   pub one : Demand1 c capacity work r after
   pub two : InLimits c capacity (length work) → Demand2 c capacity r
   pub three : InLimits c capacity (length work) → Demand3 c capacity r
 
 -- a packed case: refused with its first fault, or answered as the case that it holds, which has none of the faults 2 to 6
-pub record PackedDemands (s : List ℕ) (capacity : ℕ) (work : List ℤ) (r : Answer) (after : List ℤ) : Type 0 where
-  pub refuses : (f : Fault) → parse s ≡ refused f → (r ≡ refusal f) × (after ≡ work)
+pub record PackedDemands (s : List ℕ) (capacity : ℕ) (work : List ℤ) (r : Result Verdict Fault) (after : List ℤ) : Type 0 where
+  pub refuses : (f : Fault) → parse s ≡ refused f → (r ≡ Err f) × (after ≡ work)
   pub reads : (c : Case) (q : ℕ) → parse s ≡ got c q
       → (call_fault c capacity (length work) ≡ room_fault c.n capacity (length work)) × Demands c capacity work r after
 
 -- what a call for a verdict gives
-pub record Given (c : Case) (capacity : ℕ) (work : List ℤ) (r : Answer) (after : List ℤ) : Type 0 where
+pub record Given (c : Case) (capacity : ℕ) (work : List ℤ) (r : Result Verdict Fault) (after : List ℤ) : Type 0 where
   pub answer : r ≡ answer c capacity (length work)
   pub workspace : after ≡ workspace_after c capacity work
   pub demands : Demands c capacity work r after
 
-pub record PackedGiven (s : List ℕ) (capacity : ℕ) (work : List ℤ) (r : Answer) (after : List ℤ) : Type 0 where
+pub record PackedGiven (s : List ℕ) (capacity : ℕ) (work : List ℤ) (r : Result Verdict Fault) (after : List ℤ) : Type 0 where
   pub answer : r ≡ answer_packed s capacity (length work)
   pub workspace : after ≡ workspace_after_packed s capacity work
   pub demands : PackedDemands s capacity work r after

@@ -1,10 +1,9 @@
 -- The examples that document 01 marks (P), as document 02 changes them and adds to them: one list, one claim.
-use Rattle.std.specs.Prelude.{ℕ, ℤ, pos, negsuc, ◌≡◌, refl, true, false}
+use Rattle.std.specs.Prelude.{Ok, Some, None, ℕ, ℤ, pos, negsuc, ◌≡◌, refl, true}
 use mathlib.Core.List.{List, [], ◌∷◌}
 use Rattle.std.proofs.Math.Option.{some}
 use Rattle.model.specs.declared.Limit.{Limit}
 use Rattle.model.specs.declared.Case.{Case}
-use Rattle.model.specs.declared.Judged.TheVariants as judged
 use Rattle.model.specs.Sizes.{workspace_size}
 use Rattle.model.specs.Lists as L
 use Rattle.model.specs.Bound as B
@@ -15,7 +14,7 @@ use Rattle.model.specs.Network.{Repeat, repeat_of}
 use Rattle.model.specs.Search as X
 use Rattle.model.specs.Search.{reached, clear, never, table_full}
 use Rattle.model.specs.Faults as F
-use Rattle.model.specs.Faults.{nothing, present, unmarked, network}
+use Rattle.model.specs.Faults.{Entry, present, unmarked, network}
 use Rattle.model.specs.Packed.{case_of}
 use Rattle.model.specs.Answers.{all_times, answered, answer, run, run_in_parts}
 
@@ -29,79 +28,79 @@ pub data Example : Type 0 where
 abbrev pub Right : Example → Type 0
 Right (powers_of c r) = repeat_of (network c) ≡ some r
 Right (verdict_of c z o) = answer c z (workspace_size z c.n) ≡ answered o
-Right (run_of c xs k ys) = run c (all_times xs) k ≡ record { judged = judged.Accepted; times = all_times ys }
-Right (parts_run_of parts c xs k ys) = run_in_parts parts c (all_times xs) k ≡ record { judged = judged.Accepted; times = all_times ys }
+Right (run_of c xs k ys) = run c (all_times xs) k ≡ Ok (all_times ys)
+Right (parts_run_of parts c xs k ys) = run_in_parts parts c (all_times xs) k ≡ Ok (all_times ys)
 
 abbrev pub AllRight : List Example → Type 0
 AllRight [] = Unit {0}
 AllRight (e ∷ es) = Right e × AllRight es
 
 -- a bound that is absent, x ≤ z and x < z
-abbrev pub free : Limit
-free = unmarked nothing
+abbrev pub free : Entry Limit
+free = None
 
-abbrev pub at_most : ℤ → Limit
+abbrev pub at_most : ℤ → Entry Limit
 at_most z = unmarked (present z)
 
-abbrev pub less_than : ℤ → Limit
-less_than z = record { has = true; strict = true; value = record { 0 = z } }
+abbrev pub less_than : ℤ → Entry Limit
+less_than z = Some (record { strict = true; value = record { 0 = z } })
 
 -- pairs of two departures, in order: (0,1) (0,2) (1,0) (1,2) (2,0) (2,1)
-abbrev pub any2 : List Limit
+abbrev pub any2 : List (Entry Limit)
 any2 = free ∷ free ∷ free ∷ free ∷ free ∷ free ∷ []
 
 -- bounds on d and on -d, d being x(1) - x(2)
-abbrev pub d_within : Limit → Limit → List Limit
+abbrev pub d_within : Entry Limit → Entry Limit → List (Entry Limit)
 d_within hi lo = free ∷ free ∷ free ∷ hi ∷ free ∷ lo ∷ []
 
 -- both times in 0 to 1
-abbrev pub in_0_to_1 : List Limit
+abbrev pub in_0_to_1 : List (Entry Limit)
 in_0_to_1 = at_most (pos 0) ∷ at_most (pos 0) ∷ at_most (pos 1) ∷ free ∷ at_most (pos 1) ∷ free ∷ []
 
 -- d = 1
-abbrev pub d_is_1 : List Limit
+abbrev pub d_is_1 : List (Entry Limit)
 d_is_1 = d_within (at_most (pos 1)) (at_most (negsuc 0))
 
 -- 0 < d < 1, and the same with "less than b" read as at most b - 1
-abbrev pub d_between : List Limit
+abbrev pub d_between : List (Entry Limit)
 d_between = d_within (less_than (pos 1)) (less_than (pos 0))
 
-abbrev pub d_between_read : List Limit
+abbrev pub d_between_read : List (Entry Limit)
 d_between_read = d_within (at_most (pos 0)) (at_most (negsuc 0))
 
 -- the networks R, S and O
-abbrev pub R : ℕ → List Limit → List Limit → Case
+abbrev pub R : ℕ → List (Entry Limit) → List (Entry Limit) → Case
 R h start target = case_of 2 h (present (pos 2) ∷ present (pos 5) ∷ present (pos 3) ∷ present (pos 3) ∷ []) start target
 
-abbrev pub S : ℕ → List Limit → List Limit → Case
-S h start target = case_of 2 h (nothing ∷ present (pos 0) ∷ present (pos 0) ∷ nothing ∷ []) start target
+abbrev pub S : ℕ → List (Entry Limit) → List (Entry Limit) → Case
+S h start target = case_of 2 h (None ∷ present (pos 0) ∷ present (pos 0) ∷ None ∷ []) start target
 
-abbrev pub O : ℕ → List Limit → List Limit → Case
+abbrev pub O : ℕ → List (Entry Limit) → List (Entry Limit) → Case
 O h start target = case_of 1 h (present (pos 1) ∷ []) start target
 
 -- x(1) is v, as -x(1) ≤ -v and x(1) ≤ v
-abbrev pub x_is_0 : List Limit
+abbrev pub x_is_0 : List (Entry Limit)
 x_is_0 = at_most (pos 0) ∷ at_most (pos 0) ∷ []
 
-abbrev pub x_is_5 : List Limit
+abbrev pub x_is_5 : List (Entry Limit)
 x_is_5 = at_most (negsuc 4) ∷ at_most (pos 5) ∷ []
 
 -- 0 ≤ x(1) ≤ 9
-abbrev pub x_in_0_to_9 : List Limit
+abbrev pub x_in_0_to_9 : List (Entry Limit)
 x_in_0_to_9 = at_most (pos 0) ∷ at_most (pos 9) ∷ []
 
 -- x(1) ≤ 5, and x(1) < 100
-abbrev pub x_to_5 : List Limit
+abbrev pub x_to_5 : List (Entry Limit)
 x_to_5 = free ∷ at_most (pos 5) ∷ []
 
-abbrev pub x_below_100 : List Limit
+abbrev pub x_below_100 : List (Entry Limit)
 x_below_100 = free ∷ less_than (pos 100) ∷ []
 
--- no bounds on x(1), with a mark that is ignored
-abbrev pub x_any : List Limit
-x_any = free ∷ record { has = false; strict = true; value = record { 0 = pos 0 } } ∷ []
+-- no bounds on x(1)
+abbrev pub x_any : List (Entry Limit)
+x_any = free ∷ free ∷ []
 
--- an ignored mark; strict bounds, met in thirds of a second where reading them as at most b - 1 leaves nothing; parts go by the patterns, also where the
+-- no bounds; strict bounds, met in thirds of a second where reading them as at most b - 1 leaves nothing; parts go by the patterns, also where the
 -- zone shows no strict bound; times in thirds
 abbrev pub strict_examples : List Example
 strict_examples =

@@ -1,9 +1,9 @@
 -- Document 01's faults, and 14 to 16 of requests [1], [2], [6] and [7]: their numbers, what they return, and the first one of an unpacked case, of a case
 -- for a packed form, of a call and of a run.
-use Rattle.std.specs.Prelude.{ℕ, zero, suc, ◌+◌, ℤ, pos, nat_abs, List, [], ◌∷◌, map, Bool, true, false, not, ◌&&◌, ◌||◌, cond, take, drop, ltb}
+use Rattle.std.specs.Prelude as P
+use Rattle.std.specs.Prelude.{Some, None, ℕ, zero, suc, ◌+◌, ℤ, pos, nat_abs, List, [], ◌∷◌, map, Bool, true, false, not, ◌&&◌, ◌||◌, cond, take, drop, ltb}
 use Rattle.std.proofs.Math.Option.{Option, none}
 use Rattle.ints.specs.declared.Seconds.{Seconds}
-use Rattle.model.specs.declared.Slot.{Slot}
 use Rattle.model.specs.declared.Limit.{Limit}
 use Rattle.model.specs.declared.Case.{Case}
 use Rattle.model.specs.declared.Form.{Form}
@@ -40,28 +40,37 @@ number f = (code f).0
 abbrev pub returned : Fault → ℕ
 returned f = (code f).1
 
--- an entry as a time of the table, and a bound of a pattern; a value marked absent is ignored, and so is its mark
-unfoldable pub time_of : Slot → Time
-time_of e = cond e.has (secs e.value.0) blank
+-- an entry of a table or of a pattern: None where it is absent
+abbrev pub Entry : Type 0 → Type 0
+Entry A = P.Option A
 
-unfoldable pub bound_of : Limit → Bound
-bound_of e = cond e.has (upto e.strict e.value.0) B.Bound.none
+-- an entry as a time of the table, and a bound of a pattern
+unfoldable pub time_of : Entry Seconds → Time
+time_of None = blank
+time_of (Some x) = secs x.0
 
-abbrev pub nothing : Slot
-nothing = record { has = false; value = record { 0 = pos 0 } }
+unfoldable pub bound_of : Entry Limit → Bound
+bound_of None = B.Bound.none
+bound_of (Some e) = upto e.strict e.value.0
 
-abbrev pub present : ℤ → Slot
-present z = record { has = true; value = record { 0 = z } }
+abbrev pub present : ℤ → Entry Seconds
+present z = Some (record { 0 = z })
 
--- a bound without its mark, and an entry as a bound that is not strict
-abbrev pub stated : Limit → Slot
-stated e = record { has = e.has; value = e.value }
+-- the number of a bound, and whether it is strict; a time as a bound that is not strict
+abbrev pub stated : Entry Limit → Entry Seconds
+stated None = None
+stated (Some e) = Some e.value
 
-abbrev pub unmarked : Slot → Limit
-unmarked e = record { has = e.has; strict = false; value = e.value }
+abbrev pub marked : Entry Limit → Bool
+marked None = false
+marked (Some e) = e.strict
+
+abbrev pub unmarked : Entry Seconds → Entry Limit
+unmarked None = None
+unmarked (Some x) = Some (record { strict = false; value = x })
 
 -- the times of a table of n departures
-abbrev pub table_of : ℕ → List Slot → List Time
+abbrev pub table_of : ℕ → List (Entry Seconds) → List Time
 table_of n slots = map time_of (take (table_size n) slots)
 
 -- the network of a case: entries beyond n are ignored
@@ -74,23 +83,24 @@ network c = record {
   target = map bound_of (take (pattern_size c.n) c.target);
 }
 
-unfoldable pub beyond : ℕ → Slot → Bool
-beyond limit e = e.has && ltb limit (nat_abs e.value.0)
+unfoldable pub beyond : ℕ → Entry Seconds → Bool
+beyond limit None = false
+beyond limit (Some x) = ltb limit (nat_abs x.0)
 
 -- a fault of the entry at p: it is beyond the limit
-unfoldable pub over : ℕ → (ℕ → Fault) → ℕ → Slot → Option Fault
+unfoldable pub over : ℕ → (ℕ → Fault) → ℕ → Entry Seconds → Option Fault
 over limit f p e = when (beyond limit e) (f p)
 
 -- of the bound at p: 6
-unfoldable pub bound_fault : ℕ → Limit → Option Fault
+unfoldable pub bound_fault : ℕ → Entry Limit → Option Fault
 bound_fault p e = over bound_limit fault.Bound p (stated e)
 
 -- 16 at p: it is strict, and the form has no place for its mark
-abbrev pub mark_fault : Form → ℕ → Limit → Option Fault
-mark_fault f p e = when (markless f && (e.has && e.strict)) (fault.Form p)
+abbrev pub mark_fault : Form → ℕ → Entry Limit → Option Fault
+mark_fault f p e = when (markless f && marked e) (fault.Form p)
 
 -- for a form: 6, then 16
-unfoldable pub bound_fault_in : Form → ℕ → Limit → Option Fault
+unfoldable pub bound_fault_in : Form → ℕ → Entry Limit → Option Fault
 bound_fault_in f p e = or_else (bound_fault p e) (mark_fault f p e)
 
 -- the first fault of the entries by what judge says of each: the first of them is at place p, and next gives the place after an entry
@@ -103,7 +113,7 @@ unfoldable pub entry_fault : {A : Type 0} → (ℕ → A → Option Fault) → �
 entry_fault judge p es = fault_along (λ q e. suc q) judge p es
 
 -- r rows of n entries each, a row after its last entry
-unfoldable pub rows_fault : ℕ → ℕ → ℕ → List Slot → Option Fault
+unfoldable pub rows_fault : ℕ → ℕ → ℕ → List (Entry Seconds) → Option Fault
 rows_fault n zero p es = none
 rows_fault n (suc r) p es =
     or_else (entry_fault (over time_limit fault.Time) p (take n es))
@@ -124,7 +134,7 @@ unfoldable pub table_fault : Case → ℕ → ℕ → Option Fault
 table_fault c low k = or_else (departures_fault c) (times_fault c low k)
 
 -- the bounds, of the start followed by the target, by what judge says of each
-unfoldable pub patterns_fault : (ℕ → Limit → Option Fault) → Case → Option Fault
+unfoldable pub patterns_fault : (ℕ → Entry Limit → Option Fault) → Case → Option Fault
 patterns_fault judge c =
     let size = pattern_size c.n in
     or_else (entry_fault judge 0 (take size c.start)) (entry_fault judge size (take size c.target))

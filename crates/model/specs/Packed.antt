@@ -1,8 +1,9 @@
 -- The packed case: what reading a list of bytes gives. Bits are numbered from 0, the most significant of the first byte first.
 -- An entry's kind serves the writer too.
-use Rattle.std.specs.Prelude.{ℕ, zero, suc, ◌+◌, ◌-◌, ◌*◌, ◌/◌, ◌%◌, ◌^◌, List, [], ◌∷◌, ◌++◌, map, Bool, true, cond, length, get_or, ltb, leb, eqb, ℤ, pos, negsuc, ◌-ℤ◌}
+use Rattle.std.specs.Prelude.{ℕ, zero, suc, ◌+◌, ◌-◌, ◌*◌, ◌/◌, ◌%◌, ◌^◌, List, [], ◌∷◌, ◌++◌, map, length, get_or, ltb, leb, eqb, ℤ, pos, negsuc, ◌-ℤ◌}
+use Rattle.std.specs.Prelude.{Some, None, is_some, Bool, cond}
 use Rattle.std.proofs.Math.Option.{Option, none, some}
-use Rattle.model.specs.declared.Slot.{Slot}
+use Rattle.ints.specs.declared.Seconds.{Seconds}
 use Rattle.model.specs.declared.Limit.{Limit}
 use Rattle.model.specs.declared.Case.{Case}
 use Rattle.model.specs.declared.Form.{Form}
@@ -12,7 +13,7 @@ use Rattle.model.specs.Sizes.{most_bounds, time_limit, pattern_size, wide_lead, 
 use Rattle.model.specs.Forms.{old, wide}
 use Rattle.model.specs.Lists.{padded}
 use Rattle.model.specs.Network.{regular}
-use Rattle.model.specs.Faults.{time_of, nothing, present, unmarked, over, bound_fault_in}
+use Rattle.model.specs.Faults.{Entry, time_of, present, over, bound_fault_in}
 
 -- a value and the place after it, or the first fault
 pub data Reading (A : Type 0) : Type 0 where
@@ -58,27 +59,35 @@ pub record Kind (A : Type 0) : Type 0 where
   pub raw : A → ℕ
   pub judge : ℕ → A → Option Fault
 
-abbrev pub time_kind : Kind Slot
+abbrev pub time_raw : Entry Seconds → ℕ
+time_raw None = 0
+time_raw (Some x) = raw_of (2 ^ (time_width - 1)) x.0
+
+abbrev pub time_kind : Kind (Entry Seconds)
 time_kind = record {
   width = time_width;
-  absent = nothing;
-  has = λ e. e.has;
+  absent = None;
+  has = is_some;
   value = λ raw. present (signed (2 ^ (time_width - 1)) raw);
-  raw = λ e. raw_of (2 ^ (time_width - 1)) e.value.0;
+  raw = time_raw;
   judge = over time_limit fault.Time;
 }
 
 -- a bound: its mark, where the form has a place for it, then its value; 1 is strict
 abbrev pub limit_of : ℕ → Limit
-limit_of raw = record { has = true; strict = leb (2 ^ bound_width) raw; value = record { 0 = signed (2 ^ (bound_width - 1)) (raw % 2 ^ bound_width) } }
+limit_of raw = record { strict = leb (2 ^ bound_width) raw; value = record { 0 = signed (2 ^ (bound_width - 1)) (raw % 2 ^ bound_width) } }
 
-abbrev pub bound_kind : Form → Kind Limit
+abbrev pub bound_raw : Entry Limit → ℕ
+bound_raw None = 0
+bound_raw (Some e) = cond e.strict (2 ^ bound_width) 0 + raw_of (2 ^ (bound_width - 1)) e.value.0
+
+abbrev pub bound_kind : Form → Kind (Entry Limit)
 bound_kind f = record {
   width = f.mark + bound_width;
-  absent = unmarked nothing;
-  has = λ e. e.has;
-  value = limit_of;
-  raw = λ e. cond e.strict (2 ^ bound_width) 0 + raw_of (2 ^ (bound_width - 1)) e.value.0;
+  absent = None;
+  has = is_some;
+  value = λ raw. Some (limit_of raw);
+  raw = bound_raw;
   judge = bound_fault_in f;
 }
 
@@ -100,7 +109,7 @@ entries k s zero p before = got before p
 entries k s (suc count) p before = and_then (entry k s p) (λ e q. entries k s count q (before ++ e ∷ []))
 
 -- count rows of n times, after those of before
-unfoldable pub rows : List ℕ → ℕ → ℕ → ℕ → List Slot → Reading (List Slot)
+unfoldable pub rows : List ℕ → ℕ → ℕ → ℕ → List (Entry Seconds) → Reading (List (Entry Seconds))
 rows s n zero p before = got before p
 rows s n (suc count) p before =
     and_then (entries time_kind s n p []) (λ row q.
@@ -119,13 +128,13 @@ fill s p =
     cond (eqb q (8 * length s)) (got 0 q) (refused (fault.ExtraByte q)))
 
 -- the unpacked case of n departures and h cycles with these entries
-abbrev pub case_of : ℕ → ℕ → List Slot → List Limit → List Limit → Case
+abbrev pub case_of : ℕ → ℕ → List (Entry Seconds) → List (Entry Limit) → List (Entry Limit) → Case
 case_of n h times start target = record {
   n = n;
   horizon = record { 0 = h };
-  times = padded nothing most_bounds times;
-  start = padded (unmarked nothing) most_bounds start;
-  target = padded (unmarked nothing) most_bounds target;
+  times = padded None most_bounds times;
+  start = padded None most_bounds start;
+  target = padded None most_bounds target;
 }
 
 -- what follows the two numbers

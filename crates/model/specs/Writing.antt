@@ -1,18 +1,15 @@
 -- The writer of packed cases, requests [1] and [7]: each form the other way round. Bits are listed in file order, each 0 or 1.
-use Rattle.std.specs.Prelude.{ℕ, ◌+◌, ◌-◌, ◌*◌, ◌/◌, ◌%◌, ◌^◌, ◌≤◌, ◌≡◌, cond, length, get_or, take, drop, ltb}
-use mathlib.Core.List.{List, [], ◌∷◌, ◌++◌, map, flat_map}
+use Rattle.std.specs.Prelude.{Result, Ok, Err, ℕ, ◌+◌, ◌-◌, ◌*◌, ◌/◌, ◌%◌, ◌^◌, ◌≤◌, ◌≡◌, cond, length, get_or, take, drop, ltb}
+use mathlib.Core.List.{List, [], ◌∷◌, ◌++◌, flat_map}
 use Rattle.std.proofs.Math.Option.{Option, none, some}
 use Rattle.model.specs.declared.Limit.{Limit}
 use Rattle.model.specs.declared.Case.{Case}
 use Rattle.model.specs.declared.Form.{Form}
-use Rattle.model.specs.declared.Written.{Written}
-use Rattle.model.specs.declared.Written.TheVariants as written
 use Rattle.model.specs.declared.Fault.{Fault}
 use Rattle.model.specs.declared.Fault.TheVariants as fault
 use Rattle.model.specs.Sizes.{table_size, pattern_size, horizon_width}
-use Rattle.model.specs.Forms.{wide}
 use Rattle.model.specs.Lists.{tabulate, when, or_else}
-use Rattle.model.specs.Faults.{case_fault, form_fault}
+use Rattle.model.specs.Faults.{Entry, case_fault, form_fault}
 use Rattle.model.specs.Packed.{num_of, Kind, time_kind, bound_kind, case_of}
 
 -- ---- bits and bytes
@@ -35,7 +32,7 @@ entries_bits k es = flat_map (entry_bits k) es
 
 -- ---- the case
 -- the bounds of the start, then those of the target
-abbrev pub all_bounds : Case → List Limit
+abbrev pub all_bounds : Case → List (Entry Limit)
 all_bounds c = take (pattern_size c.n) c.start ++ take (pattern_size c.n) c.target
 
 -- the fields in front: zero bits; n; N - 1
@@ -54,17 +51,11 @@ case_bits f c = head_bits f c.n c.horizon.0 ++ table_bits c ++ entries_bits (bou
 unfoldable pub packed_as : Form → Case → List ℕ
 packed_as f c = bytes_of (case_bits f c)
 
--- the entry, without its value and its mark where it is marked absent
-abbrev pub tidy : {A : Type 0} → Kind A → A → A
-tidy k e = cond (k.has e) e k.absent
-
--- the case without what document 01 ignores: values marked absent, and entries beyond n
+-- the case without what document 01 ignores: entries beyond n
 unfoldable pub tidied : Case → Case
 tidied c =
     let size = pattern_size c.n in
-    case_of c.n c.horizon.0
-    (map (tidy time_kind) (take (table_size c.n) c.times))
-    (map (tidy (bound_kind wide)) (take size c.start)) (map (tidy (bound_kind wide)) (take size c.target))
+    case_of c.n c.horizon.0 (take (table_size c.n) c.times) (take size c.start) (take size c.target)
 
 -- its arrays are long enough for n, as those of the code are
 pub record Whole (c : Case) : Type 0 where
@@ -82,9 +73,9 @@ unfoldable pub write_fault : Form → Case → ℕ → Option Fault
 write_fault f c size = or_else (form_fault f c) (room_for (packed_as f c) size)
 
 -- the number of bytes, if there is no fault
-unfoldable pub told : Option Fault → List ℕ → Written
-told (some f) bytes = written.Refused f
-told none bytes = written.Bytes (length bytes)
+unfoldable pub told : Option Fault → List ℕ → Result ℕ Fault
+told (some f) bytes = Err f
+told none bytes = Ok (length bytes)
 
 -- the bytes, and what stood in the output behind them; on a fault the output as it was
 unfoldable pub output_after : Option Fault → List ℕ → List ℕ → List ℕ
@@ -92,7 +83,7 @@ output_after (some f) bytes out = out
 output_after none bytes out = bytes ++ drop (length bytes) out
 
 -- what writing a case in a form gives: the answer, the output afterwards, and what a proof that reads the bytes back needs to know of the case
-pub record WriteGiven (f : Form) (c : Case) (out : List ℕ) (r : Written) (after : List ℕ) : Type 0 where
+pub record WriteGiven (f : Form) (c : Case) (out : List ℕ) (r : Result ℕ Fault) (after : List ℕ) : Type 0 where
   pub answer : r ≡ told (write_fault f c (length out)) (packed_as f c)
   pub output : after ≡ output_after (write_fault f c (length out)) (packed_as f c) out
   pub whole : case_fault c ≡ none → Whole c

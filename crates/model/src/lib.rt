@@ -6,9 +6,8 @@ ghost use Rattle.std.specs.Int.{w64};
 ghost use Rattle.std.proofs.Common.{SFits};
 ghost use Rattle.model.specs.Network.{later, after, secs_of};
 ghost use Rattle.model.specs.Faults.{number, returned, time_of};
-ghost use Rattle.model.specs.Answers.{numbers_of};
 
-use ints::{Cycle, Seconds, ZERO};
+use ints::{Cycle, Seconds};
 
 // The most departures of a network, cycles of a horizon and zones of a capacity.
 pub const DEPARTURES: usize = 15;
@@ -71,65 +70,96 @@ pub const BITS: usize = WIDE.lead
 
 pub const BYTES: usize = (BITS + 7) / 8;
 
-// An entry of a table: its value counts where has is true.
-#[derive(Clone, Copy)]
-pub struct Slot {
-    pub has: bool,
-    pub value: Seconds,
-}
-
-// An entry that is not there.
-pub const NOTHING: Slot = Slot {
-    has: false,
-    value: ZERO,
-};
-
-impl Slot {
-    // The later of a time and of the sum of two: max-plus addition and multiplication in one step, which compiles better than a function for each.
-    pub fn later_sum(self, first: Slot, second: Slot) -> Slot
-        requires { SFits w64 (secs_of (after (time_of first) (time_of second))) }
-        ensures { time_of result ≡ later (time_of self) (after (time_of first) (time_of second)) }
-    {
-        if !(first.has & second.has) {
-            return self;
-        }
-        let sum = first.value.plus(second.value);
-        if self.has & !self.value.at_most(sum) {
-            return self;
-        }
-        Slot {
-            has: true,
-            value: sum,
-        }
+// The later of a time of the table and of the sum of two: max-plus addition and multiplication in one step. None is a blank.
+#[tactic(auto, unfolding(crate::specs::Network::later, crate::specs::Network::after, crate::specs::Network::secs_of, crate::specs::Faults::time_of))]
+pub fn later_sum(
+    latest: Option<Seconds>,
+    first: Option<Seconds>,
+    second: Option<Seconds>,
+) -> Option<Seconds>
+    requires { SFits w64 (secs_of (after (time_of first) (time_of second))) }
+    ensures { time_of result ≡ later (time_of latest) (after (time_of first) (time_of second)) }
+{
+    let (Some(a), Some(b)) = (first, second) else {
+        return latest;
+    };
+    let sum = a + b;
+    match latest {
+        Some(time) if sum < time => latest,
+        _ => Some(sum),
     }
 }
 
-// A bound of a pattern: its mark, whether it is strict, and its value count where has is true.
-#[derive(Clone, Copy)]
+// A bound of a pattern: at most its value, or less where it is strict. Where a pattern has none, None stands.
+#[derive(Clone, Copy, Debug, PartialEq, Eq)]
 pub struct Limit {
-    pub has: bool,
     pub strict: bool,
     pub value: Seconds,
 }
 
-// A bound that is not there.
-pub const FREE: Limit = Limit {
-    has: false,
-    strict: false,
-    value: ZERO,
-};
+// An entry of a case: a time of the table, or a bound of a pattern.
+pub trait Entry: Copy {
+    ghost use Rattle.std.specs.Prelude.{◌≤◌, Option, None, is_some};
+    ghost use Rattle.model.specs.declared.Form.{Form};
+    ghost use Rattle.model.specs.Sizes.{most_width};
+    ghost use Rattle.model.specs.Conditions.{FormLimits};
+    ghost use Rattle.model.specs.Packed.{Kind};
+
+    // How a packed case in a form holds it.
+    ghost kind: { Form → Kind (Option Self) };
+
+    // The bits of its number, which stand behind its presence bit.
+    fn width(form: Form) -> usize
+        requires { FormLimits form }
+        ensures is { result ≡ (kind form).width }
+        ensures narrow { result ≤ most_width };
+
+    ghost absent_is: { (form : Form) → (kind form).absent ≡ None };
+
+    ghost has_is: { (form : Form) (entry : Option Self) → (kind form).has entry ≡ is_some entry };
+}
+
+impl Entry for Seconds {
+    ghost use Rattle.std.specs.Prelude.{refl};
+    ghost use Rattle.model.specs.Packed.{time_kind};
+
+    ghost kind = { λ form. time_kind };
+
+    ghost absent_is = { λ form. refl };
+
+    ghost has_is = { λ form entry. refl };
+
+    fn width(_form: Form) -> usize {
+        TIME_WIDTH
+    }
+}
+
+impl Entry for Limit {
+    ghost use Rattle.std.specs.Prelude.{refl};
+    ghost use Rattle.model.specs.Packed.{bound_kind};
+
+    ghost kind = { bound_kind };
+
+    ghost absent_is = { λ form. refl };
+
+    ghost has_is = { λ form entry. refl };
+
+    fn width(form: Form) -> usize {
+        form.mark + BOUND_WIDTH
+    }
+}
 
 // An unpacked case. Entries are in packed order for n, from 0 on; those beyond are ignored. Each part has room for as many as a pattern has.
 #[derive(Clone, Copy)]
 pub struct Case {
     pub n: usize,
     pub horizon: Cycle,
-    pub times: [Slot; BOUNDS],
-    pub start: [Limit; BOUNDS],
-    pub target: [Limit; BOUNDS],
+    pub times: [Option<Seconds>; BOUNDS],
+    pub start: [Option<Limit>; BOUNDS],
+    pub target: [Option<Limit>; BOUNDS],
 }
 
-#[derive(Clone, Copy)]
+#[derive(Clone, Copy, Debug, PartialEq, Eq)]
 pub enum Fault {
     CaseEnds(usize),
     Departures,
@@ -149,6 +179,7 @@ pub enum Fault {
 }
 
 impl Fault {
+    // Document 01's numbers, which the program prints and the static library hands back.
     pub fn number(self) -> u8
         ensures { result ≡ number self }
     {
@@ -194,90 +225,60 @@ impl Fault {
     }
 }
 
-#[derive(Clone, Copy)]
+// A start that is handed back, in parts of which parts make a second: its times beyond n are 0.
+#[derive(Clone, Copy, Debug, PartialEq, Eq)]
+pub struct StartTimes {
+    pub parts: usize,
+    pub times: [Seconds; DEPARTURES],
+}
+
+#[derive(Clone, Copy, Debug, PartialEq, Eq)]
 pub enum Verdict {
-    Reached(Cycle),
+    Reached(Cycle, StartTimes),
     Clear(Cycle),
     Never,
-    Refused(Fault),
 }
 
-impl Verdict {
-    // Which verdict it is: 0 refused, 1 reached, 2 clear, 3 never.
-    pub fn kind(self) -> u32
-        ensures { result ≡ (numbers_of self).kind }
-    {
-        match self {
-            Verdict::Refused(_) => 0,
-            Verdict::Reached(_) => 1,
-            Verdict::Clear(_) => 2,
-            Verdict::Never => 3,
-        }
-    }
+// The verdict on a case, or why there is none.
+pub type Answer = Result<Verdict, Fault>;
 
-    // The fault's number, 0 where there is none.
-    pub fn fault(self) -> usize
-        ensures { result ≡ (numbers_of self).fault }
-    {
-        match self {
-            Verdict::Refused(fault) => fault.number() as usize,
-            Verdict::Reached(_) => 0,
-            Verdict::Clear(_) => 0,
-            Verdict::Never => 0,
-        }
-    }
+// An answer as numbers: its kind, 0 refused, 1 reached, 2 clear, 3 never; the fault's number, 0 where there is none; the number that goes with it.
+#[derive(Clone, Copy, Debug, PartialEq, Eq)]
+pub struct Numbers {
+    pub kind: u32,
+    pub fault: usize,
+    pub value: usize,
+}
 
-    // The number that goes with it.
-    pub fn value(self) -> usize
-        ensures { result ≡ (numbers_of self).value }
-    {
-        match self {
-            Verdict::Refused(fault) => fault.returned(),
-            Verdict::Reached(cycle) => cycle.0,
-            Verdict::Clear(horizon) => horizon.0,
-            Verdict::Never => 0,
+impl From<Fault> for Numbers {
+    ghost use Rattle.model.specs.Answers.{fault_numbers};
+
+    ghost from_gives = { λ fault numbers. numbers ≡ fault_numbers fault };
+
+    fn from(fault: Fault) -> Numbers {
+        Numbers {
+            kind: 0,
+            fault: fault.number() as usize,
+            value: fault.returned(),
         }
     }
 }
 
-// A verdict, beside it the start that it hands back, in parts of which parts make a second: all 0 unless it is Reached.
-#[derive(Clone, Copy)]
-pub struct Answer {
-    pub verdict: Verdict,
-    pub parts: usize,
-    pub start: [Seconds; DEPARTURES],
-}
+impl From<Verdict> for Numbers {
+    ghost use Rattle.model.specs.Answers.{verdict_numbers};
 
-#[derive(Clone, Copy)]
-pub enum Judged {
-    Accepted,
-    Refused(Fault),
-}
+    ghost from_gives = { λ verdict numbers. numbers ≡ verdict_numbers verdict };
 
-// A packed case that was read: an empty one where it is refused.
-#[derive(Clone, Copy)]
-pub struct Unpacked {
-    pub judged: Judged,
-    pub case: Case,
-}
-
-// A case with one time changed: the case as it was given where that is refused.
-#[derive(Clone, Copy)]
-pub struct Committed {
-    pub judged: Judged,
-    pub case: Case,
-}
-
-// What a writer says: how many bytes it put at the front of the output, or why it put none.
-#[derive(Clone, Copy)]
-pub enum Written {
-    Bytes(usize),
-    Refused(Fault),
-}
-
-// The times of a run's cycle: all 0 where it is refused.
-#[derive(Clone, Copy)]
-pub struct Run {
-    pub judged: Judged,
-    pub times: [Seconds; DEPARTURES],
+    fn from(verdict: Verdict) -> Numbers {
+        let (kind, value) = match verdict {
+            Verdict::Reached(cycle, _) => (1, cycle.0),
+            Verdict::Clear(horizon) => (2, horizon.0),
+            Verdict::Never => (3, 0),
+        };
+        Numbers {
+            kind,
+            fault: 0,
+            value,
+        }
+    }
 }

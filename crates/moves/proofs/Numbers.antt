@@ -1,14 +1,12 @@
 -- Numbers in memory that stand for bounds on times that are later.
-use Prim.Native.Nat.{ℕ, zero, suc, ◌*◌, ◌/◌, ◌≤◌}
+use Prim.Native.Nat.{ℕ, zero, suc, ◌*◌, ◌≤◌}
 use native.Mathlib.Omega.{arith}
-use native.Mathlib.Nat.{div-mul-le_self}
 use mathlib.Core.Path.{◌≡◌, refl, ◌∙◌}
 use mathlib.Core.Bool.{false, ◌||◌}
-use lib.IntN.{ℤ, pos, negsuc, neg_ℤ, nat_abs, ◌+ℤ◌, ◌-ℤ◌}
-use lib.Signed.{quot_z}
+use lib.IntN.{ℤ, pos, nat_abs, ◌+ℤ◌, ◌-ℤ◌}
 use mir.Syntax.{w32, w64}
 use mir.Val.{SFits, of_z}
-use Rattle.ints.proofs.Integers.{ints, range, fits, sized_fits, add_ud, sub_ud, neg_ud, abs_ud, pos_ud}
+use Rattle.ints.proofs.Integers.{ints, range, fits, add_ud, sub_ud, abs_ud}
 use Rattle.model.specs.Bound as B
 use Rattle.model.specs.Bound.{most, halves, plus}
 use Rattle.model.specs.Conditions.{Small}
@@ -55,13 +53,7 @@ module _ (z : ℤ) where
   unfolding bound_in
   halves_there ne = rw (test_other z ne)
 
-  pub wider : SFits w32 z → SFits w64 z
-  wider f = fits (omega (arith, range f))
-
   module _ (f : SFits w32 z) (c : ℤ) (h : nat_abs c ≤ 2 * InMemory) where
-    pub once_fits : SFits w64 (z +ℤ c)
-    once_fits = fits (omega (ints, range f, add_ud z c, abs_ud c))
-
     pub twice_fits : SFits w64 ((z +ℤ c) +ℤ c)
     twice_fits = fits (omega (ints, range f, add_ud z c, add_ud (z +ℤ c) c, abs_ud c))
 
@@ -75,23 +67,3 @@ module _ (z c : ℤ) (s : Small Limit (plus (of_halves z) (most c))) where
 
   pub sum_stored : bound_in ((z +ℤ c) +ℤ c) ≡ plus (of_halves z) (most c)
   sum_stored = bound_stored _ (omega (arith, sum_within)) ∙ twice_more z c
-
--- ---- half of a difference
-module _ (a b : ℤ) (f : SFits w32 a) (g : SFits w32 b) where
-  pub more_fits : SFits w64 (b -ℤ a)
-  more_fits = fits (omega (ints, range f, range g, sub_ud b a))
-
-  more_small : nat_abs (b -ℤ a) ≤ 2 * InMemory
-  more_small = omega (ints, range f, range g, sub_ud b a, abs_ud (b -ℤ a))
-
-  pub half_small : nat_abs (quot_z (b -ℤ a) (pos 2)) ≤ InMemory
-  half_small = go (b -ℤ a) more_small
-    where
-      go : (z : ℤ) → nat_abs z ≤ 2 * InMemory → nat_abs (quot_z z (pos 2)) ≤ InMemory
-      go (pos n) h = omega (arith, div-mul-le_self n 2)
-      go (negsuc n) h =
-          let q = suc n / 2 in
-          omega (ints, div-mul-le_self (suc n) 2, neg_ud (pos q), pos_ud q, abs_ud (neg_ℤ (pos q)))
-
-  pub half_fits : SFits w64 (quot_z (b -ℤ a) (pos 2))
-  half_fits = sized_fits _ (omega (arith, half_small))

@@ -1,5 +1,5 @@
 -- Zones with the clock moved, and lists of them in the workspace.
-use Rattle.std.specs.Prelude.{ℕ, zero, suc, ◌+◌, ◌*◌, ◌/◌, ◌%◌, ◌≤◌, ◌≡◌, true, List, map, ℤ, pos, nat_abs, ◌-ℤ◌, length, take, drop}
+use Rattle.std.specs.Prelude.{ℕ, zero, suc, ◌+◌, ◌*◌, ◌/◌, ◌%◌, ◌≤◌, ◌≡◌, List, map, Option, IfSome, ℤ, pos, nat_abs, ◌-ℤ◌, length, take, drop}
 use Rattle.ints.specs.declared.Seconds.{Seconds}
 use Rattle.model.specs.Sizes.{most_departures, zone_size}
 use Rattle.model.specs.Lists.{Every}
@@ -8,7 +8,6 @@ use Rattle.model.specs.Matrix.{Matrix, entry, matrix}
 use Rattle.model.specs.Conditions.{Bounded}
 use Rattle.memory.specs.Numbers.{Limit, InMemory}
 use Rattle.lists.specs.Lists.{list_in}
-use Rattle.moves.specs.declared.Moved.{Moved}
 
 -- the bounds of d where x(i) is p(i) later
 unfoldable pub move_by : ℕ → (ℕ → ℤ) → Matrix → Matrix
@@ -41,10 +40,14 @@ pub record TwoLists (n source count goal next : ℕ) (work : List ℤ) : Type 0 
   pub source_in : source + count * zone_size n ≤ length work
   pub goal_in : goal + next * zone_size n ≤ length work
 
--- if a move is found, the list at goal is the one at source so moved. Free: whether one is found, and the number where none is
-pub record MovedBy (n source count goal next : ℕ) (work : List ℤ) (r : Moved) : Type 0 where
-  pub small : nat_abs r.by.0 ≤ InMemory
-  pub is : r.some ≡ true → list_in (zone_size n) next (drop goal work) ≡ map (moved n r.by.0) (list_in (zone_size n) count (drop source work))
+-- the list at goal is the one at source moved by so much
+pub record Moves (n source count goal next : ℕ) (work : List ℤ) (by : Seconds) : Type 0 where
+  pub small : nat_abs by.0 ≤ InMemory
+  pub is : list_in (zone_size n) next (drop goal work) ≡ map (moved n by.0) (list_in (zone_size n) count (drop source work))
+
+-- if a move is found, it is so. Free: whether one is found
+abbrev pub MovedBy : (n source count goal next : ℕ) → List ℤ → Option Seconds → Type 0
+MovedBy n source count goal next work r = IfSome r (Moves n source count goal next work)
 
 -- the list at base can be moved by c: no finite bound is then beyond Limit
 pub record Movable (n base count : ℕ) (c : ℤ) (work : List ℤ) : Type 0 where

@@ -12,13 +12,6 @@ ghost use Rattle.moves.specs.Moving.{moved, clock_by, Changing, Change, TwoLists
 use ints::{Seconds, ZERO};
 use memory::{NONE, zone_size};
 
-// That a list is the one before it with the clock moved, and by how much.
-#[derive(Clone, Copy)]
-pub struct Moved {
-    pub some: bool,
-    pub by: Seconds,
-}
-
 // How much later x(i) is, where the clock is so much later.
 fn later(by: Seconds, i: usize) -> Seconds
     ensures { result.0 ≡ clock_by by.0 i }
@@ -37,7 +30,7 @@ fn change(by: Seconds, n: usize, p: usize) -> Seconds
     let m = n + 1;
     let row = p / m % m;
     let col = p % m;
-    later(by, row).minus(later(by, col))
+    later(by, row) - later(by, col)
 }
 
 // A bound in halves, so many seconds larger.
@@ -45,7 +38,7 @@ fn sum(raw: i32, by: Seconds) -> Seconds
     requires { nat_abs by.0 ≤ 2 * InMemory }
     ensures { result.0 ≡ (raw +ℤ by.0) +ℤ by.0 }
 {
-    Seconds::of(raw).plus(by).plus(by)
+    Seconds::from(raw) + by + by
 }
 
 // A number in memory for a bound that is so much larger.
@@ -53,8 +46,7 @@ fn shifted(raw: i32, by: Seconds) -> i32
     requires { (nat_abs by.0 ≤ 2 * InMemory) × Small Limit (plus (bound_in raw) (most by.0)) }
     ensures { bound_in result ≡ plus (bound_in raw) (most by.0) }
 {
-    let none = raw == NONE;
-    if none {
+    if raw == NONE {
         return NONE;
     }
     sum(raw, by).0 as i32
@@ -71,14 +63,14 @@ fn follows(a: i32, by: Seconds, b: i32) -> bool
     if b == NONE {
         return false;
     }
-    sum(a, by).0 == Seconds::of(b).0
+    sum(a, by) == Seconds::from(b)
 }
 
 // Half of what b is more than a. Free: the number, within its size.
 fn half(a: i32, b: i32) -> Seconds
     ensures { nat_abs result.0 ≤ InMemory }
 {
-    let more = Seconds::of(b).minus(Seconds::of(a));
+    let more = Seconds::from(b) - Seconds::from(a);
     Seconds(more.0 / 2)
 }
 
@@ -110,9 +102,9 @@ fn follow(work: &[i32], source: usize, goal: usize, count: usize, n: usize, by: 
 {
     let size = count * zone_size(n);
     for p in 0..size {
-        let a = work[source + p];
-        let b = work[goal + p];
-        if !follows(a, change(by, n, p), b) {
+        let before = work[source + p];
+        let after = work[goal + p];
+        if !follows(before, change(by, n, p), after) {
             return false;
         }
     }
@@ -127,30 +119,28 @@ pub fn find_move(
     goal: usize,
     next: usize,
     n: usize,
-) -> Moved
+) -> Option<Seconds>
     requires { TwoLists n source count goal next work.now × (1 ≤ count) }
     ensures { MovedBy n source count goal next work.now result }
 {
     if next != count {
-        return Moved {
-            some: false,
-            by: ZERO,
-        };
+        return None;
     }
     let by = gap(work, source, goal, n);
-    let some = follow(work, source, goal, count, n, by);
-    Moved { some, by }
+    if follow(work, source, goal, count, n, by) {
+        Some(by)
+    } else {
+        None
+    }
 }
 
-// Moves the clock of each zone of the list at base, in place.
+// Moves the clock of each zone of the list at base, in place; by index, since after iter_mut of a part no proof knows what the rest of it holds.
 pub fn move_list(work: &mut [i32], base: usize, count: usize, n: usize, by: Seconds)
     requires { Movable n base count by.0 work.old }
     ensures { MoveList n base count by.0 work.old work.new }
 {
     let size = count * zone_size(n);
     for p in 0..size {
-        let raw = work[base + p];
-        let number = shifted(raw, change(by, n, p));
-        work[base + p] = number;
+        work[base + p] = shifted(work[base + p], change(by, n, p));
     }
 }

@@ -1,6 +1,6 @@
 -- Packed cases and what reading them gives, by computation: one list, one claim. The bytes come from encoders written from the documents.
-use Rattle.std.specs.Prelude.{ℕ, ◌-◌, ℤ, pos, negsuc, ◌≡◌, refl, List, [], ◌∷◌, ◌++◌, map, true, replicate}
-use Rattle.model.specs.declared.Slot.{Slot}
+use Rattle.std.specs.Prelude.{ℕ, ◌-◌, ℤ, pos, negsuc, ◌≡◌, refl, List, [], ◌∷◌, ◌++◌, map, true, replicate, Some, None}
+use Rattle.ints.specs.declared.Seconds.{Seconds}
 use Rattle.model.specs.declared.Limit.{Limit}
 use Rattle.model.specs.declared.Case.{Case}
 use Rattle.model.specs.declared.Form.{Form}
@@ -8,7 +8,7 @@ use Rattle.model.specs.declared.Fault.TheVariants as fault
 use Rattle.model.specs.Lists.{any_of}
 use Rattle.model.specs.Network.{is_time, regular}
 use Rattle.model.specs.Forms.{old, wide}
-use Rattle.model.specs.Faults.{time_of, nothing, present, unmarked, beyond, over, bound_fault, bound_fault_in}
+use Rattle.model.specs.Faults.{Entry, time_of, present, unmarked, beyond, over, bound_fault, bound_fault_in}
 use Rattle.model.specs.Packed.{Reading, got, refused, bit_at, num_of, bits, signed, entry, entries, rows, zeros, fill, case_of, body, parse_as, parse}
 
 -- in either form, and in one
@@ -26,11 +26,11 @@ AllRight (v ∷ vs) = Right v × AllRight vs
 
 -- document 01's four bytes: n = 1, N = 1, time 60, no bounds
 abbrev pub one : Case
-one = case_of 1 1 (present (pos 60) ∷ []) (map unmarked (nothing ∷ nothing ∷ [])) (map unmarked (nothing ∷ nothing ∷ []))
+one = case_of 1 1 (present (pos 60) ∷ []) (map unmarked (None ∷ None ∷ [])) (map unmarked (None ∷ None ∷ []))
 
 -- n = 7, N = 64: a time in each row, the ends of the ranges among the values
-abbrev pub row_with : ℕ → ℤ → List Slot
-row_with k z = replicate k nothing ++ present z ∷ replicate (6 - k) nothing
+abbrev pub row_with : ℕ → ℤ → List (Entry Seconds)
+row_with k z = replicate k None ++ present z ∷ replicate (6 - k) None
 
 abbrev pub seven : Case
 seven =
@@ -42,8 +42,8 @@ seven =
     ++ row_with 3 (pos 0)
     ++ row_with 4 (pos 3600)
     ++ row_with 5 (pos 86399))
-    (map unmarked (present (pos 1000000) ∷ replicate 55 nothing))
-    (map unmarked (replicate 55 nothing ++ present (negsuc 999999) ∷ []))
+    (map unmarked (present (pos 1000000) ∷ replicate 55 None))
+    (map unmarked (replicate 55 None ++ present (negsuc 999999) ∷ []))
 
 abbrev pub old_vectors : List Vector
 old_vectors =
@@ -65,10 +65,10 @@ old_vectors =
 
 -- n = 1, N = 1, time -60, x(1) < -3
 abbrev pub strict : Case
-strict = case_of 1 1 (present (negsuc 59) ∷ []) (unmarked nothing ∷ below ∷ []) (map unmarked (nothing ∷ nothing ∷ []))
+strict = case_of 1 1 (present (negsuc 59) ∷ []) (unmarked None ∷ below ∷ []) (map unmarked (None ∷ None ∷ []))
   where
-    below : Limit
-    below = record { has = true; strict = true; value = record { 0 = negsuc 2 } }
+    below : Entry Limit
+    below = Some (record { strict = true; value = record { 0 = negsuc 2 } })
 
 -- n is 0; the case ends in N; the case of the four bytes; a strict bound, beyond its limit, without its last byte; each form read as the other
 abbrev pub wide_vectors : List Vector

@@ -1,22 +1,18 @@
-// Reads a packed case: a bit cursor by value, fields most significant bit first, entries in file order.
+// Reads a packed case: bit by bit from the front, fields most significant bit first, entries in file order.
 #![tactic(auto)]
 
-ghost use Rattle.std.specs.Prelude.{◌≡◌, ℕ, ◌+◌, ◌*◌, ◌^◌, ◌≤◌, ◌<◌, [], length};
-ghost use Rattle.model.specs.Sizes.{time_width, most_width, most_bits};
+ghost use Rattle.std.specs.Prelude.{◌≡◌, ◌+◌, ◌*◌, ◌^◌, ◌≤◌, ◌<◌, length, IfOk};
+ghost use Rattle.model.specs.Sizes.{most_times, most_bounds, time_width, most_width, most_bits};
 ghost use Rattle.model.specs.Forms.{old, wide};
 ghost use Rattle.model.specs.Conditions.{Departures, FormLimits};
 ghost use Rattle.model.specs.Faults;
-ghost use Rattle.model.specs.Faults.{nothing};
-ghost use Rattle.model.specs.Packed;
-ghost use Rattle.model.specs.Packed.{and_then, bit_at, bits, signed, time_kind, bound_kind, entry, rows, fill, body, case_of, parse_as, parse};
-ghost use Rattle.model.specs.Answers.{unpacked};
-ghost use Rattle.packed.specs.Readings.{field_read, read_number, number_of, slot_read, limit_read, bounds_of};
-ghost use Rattle.packed.specs.Readings.{next_read, place_of, From, most_table_bits, most_pattern_bits, Stored};
+ghost use Rattle.model.specs.Packed.{bit_at, signed, fill, body, parse_as, parse};
+ghost use Rattle.model.specs.Answers.{outcome_of};
 
 use ints::{Cycle, Seconds};
 use model::{
-    BOUND_LIMIT, BOUND_WIDTH, BOUNDS, Case, FREE, Fault, Form, HORIZON_WIDTH, Judged, Limit,
-    NOTHING, OLD, Slot, TIME_LIMIT, TIME_WIDTH, Unpacked, WIDE,
+    BOUND_LIMIT, BOUND_WIDTH, BOUNDS, Case, Entry, Fault, Form, HORIZON_WIDTH, Limit, OLD,
+    TIME_LIMIT, TIME_WIDTH, WIDE,
 };
 
 // The weights of a time's and of a bound's sign bit, and of a bound's mark.
@@ -26,368 +22,255 @@ const BOUND_SIGN: u32 = 1 << (BOUND_WIDTH - 1);
 
 const MARK: u32 = 1 << BOUND_WIDTH;
 
-// The place of the next bit.
-#[derive(Clone, Copy)]
-struct Cursor {
-    at: usize,
+// An entry as it is read.
+trait Readable: Entry {
+    ghost use Rattle.std.specs.Prelude.{Some, MatchResult};
+    ghost use Rattle.std.proofs.Math.Option.{none, some};
+    ghost use Rattle.model.specs.declared.Form.{Form};
+
+    // What the number stands for, or its fault; the entry is at the place.
+    fn value(raw: u32, place: usize) -> Result<Self, Fault>
+        requires { (form : Form) × (raw < 2 ^ (Self.kind form).width) }
+        ensures { (form : Form) → raw < 2 ^ (Self.kind form).width → MatchResult result
+            (λ e. ((Self.kind form).value raw ≡ Some e) × ((Self.kind form).judge place (Some e) ≡ none))
+            (λ f. (Self.kind form).judge place ((Self.kind form).value raw) ≡ some f) };
 }
 
-// Some bits read, with the next cursor, or the case ends before their end.
-#[derive(Clone, Copy)]
-enum Field {
-    Got(u32, Cursor),
-    Ends,
+// A time: its value in two's complement.
+#[tactic(auto, unfolding(model::specs::Faults::beyond, model::specs::Faults::over))]
+impl Readable for Seconds {
+    fn value(raw: u32, place: usize) -> Result<Seconds, Fault> {
+        let time = in_seconds(raw, TIME_SIGN);
+        if time.beyond(TIME_LIMIT) {
+            return Err(Fault::Time(place));
+        }
+        Ok(time)
+    }
 }
 
-// The number of an entry, with the next cursor, where its presence bit is 1.
-#[derive(Clone, Copy)]
-enum NumberRead {
-    Present(u32, Cursor),
-    Absent(Cursor),
-    Ends,
-}
-
-// A time read, with the next cursor, or its fault.
-#[derive(Clone, Copy)]
-enum SlotRead {
-    Got(Slot, Cursor),
-    Faulty(Fault),
-}
-
-// A bound read, with the next cursor, or its fault.
-#[derive(Clone, Copy)]
-enum LimitRead {
-    Got(Limit, Cursor),
-    Faulty(Fault),
-}
-
-// What comes next starts here, or the first fault.
-#[derive(Clone, Copy)]
-enum Next {
-    At(Cursor),
-    Faulty(Fault),
-}
-
-// The entries of the table as far as they were read.
-#[derive(Clone, Copy)]
-struct SlotsRead {
-    slots: [Slot; BOUNDS],
-    next: Next,
-}
-
-// The bounds of a pattern as far as they were read.
-#[derive(Clone, Copy)]
-struct LimitsRead {
-    limits: [Limit; BOUNDS],
-    next: Next,
-}
-
-fn bit_at(s: &[u8], p: usize) -> u32
-    requires { p < 8 * length s.now }
-    ensures { result ≡ bit_at s.now p }
-{
-    let i = p / 8;
-    let k = 7 - p % 8;
-    widened((s[i] >> k) % 2)
-}
-
-fn widened(x: u8) -> u32
-    ensures { result ≡ x }
-{
-    x as u32
+// A bound: its mark, where the form has one, then its value in two's complement.
+#[tactic(auto, unfolding(model::specs::Faults::beyond, model::specs::Faults::over, model::specs::Faults::bound_fault, model::specs::Faults::bound_fault_in))]
+impl Readable for Limit {
+    fn value(raw: u32, place: usize) -> Result<Limit, Fault> {
+        let strict = MARK <= raw;
+        let value = in_seconds(raw % MARK, BOUND_SIGN);
+        if value.beyond(BOUND_LIMIT) {
+            return Err(Fault::Bound(place));
+        }
+        Ok(Limit { strict, value })
+    }
 }
 
 // The value that raw spells in two's complement, half being the weight of its sign bit.
+#[tactic(auto, using(std::proofs::lemmas::Int::ints), unfolding(model::specs::Packed::signed))]
 fn in_seconds(raw: u32, half: u32) -> Seconds
     requires { (half ≤ 2 ^ 30) × (raw < half * 2) }
     ensures { result.0 ≡ signed half raw }
 {
-    Seconds::of(ints::sign_extended(raw, half))
+    Seconds::from(ints::sign_extended(raw, half))
 }
 
-impl Cursor {
-    // Some bits as a number.
-    fn bits(self, s: &[u8], width: usize) -> Field
-        requires { (self.at + width ≤ most_bits) × (width ≤ most_width) }
-        ensures { (first : ℕ) → field_read first result ≡ bits s.now width first self.at }
-    {
-        let at = self.at;
-        let end = at + width;
-        if s.len() < (end + 7) / 8 {
-            return Field::Ends;
-        }
-        let mut v: u32 = 0;
-        for i in 0..width {
-            v = v * 2 + bit_at(s, at + i);
-        }
-        Field::Got(v, Cursor { at: end })
-    }
-
-    // A presence bit, then the number of the entry if that is 1.
-    fn number(self, s: &[u8], width: usize) -> NumberRead
-        requires { (self.at + (1 + width) ≤ most_bits) × (width ≤ most_width) }
-        ensures { read_number self.at result ≡ number_of width s.now self.at }
-    {
-        let Field::Got(bit, after_bit) = self.bits(s, 1) else {
-            return NumberRead::Ends;
-        };
-        if bit == 0 {
-            return NumberRead::Absent(after_bit);
-        }
-        let Field::Got(raw, next) = after_bit.bits(s, width) else {
-            return NumberRead::Ends;
-        };
-        NumberRead::Present(raw, next)
-    }
-
-    // A time: its value in two's complement.
-    fn time(self, s: &[u8]) -> SlotRead
-        requires { self.at + (1 + time_width) ≤ most_bits }
-        ensures { slot_read result ≡ entry time_kind s.now self.at }
-    {
-        let place = self.at;
-        match self.number(s, TIME_WIDTH) {
-            NumberRead::Ends => SlotRead::Faulty(Fault::CaseEnds(place)),
-            NumberRead::Absent(next) => SlotRead::Got(NOTHING, next),
-            NumberRead::Present(raw, next) => {
-                let value = in_seconds(raw, TIME_SIGN);
-                if value.beyond(TIME_LIMIT) {
-                    return SlotRead::Faulty(Fault::Time(place));
-                }
-                SlotRead::Got(Slot { has: true, value }, next)
-            }
-        }
-    }
-
-    // A bound: its mark, where the form has one, then its value in two's complement.
-    fn bound(self, s: &[u8], form: Form) -> LimitRead
-        requires { FormLimits form × (self.at + (1 + most_width) ≤ most_bits) }
-        ensures { limit_read result ≡ entry (bound_kind form) s.now self.at }
-    {
-        let place = self.at;
-        match self.number(s, form.mark + BOUND_WIDTH) {
-            NumberRead::Ends => LimitRead::Faulty(Fault::CaseEnds(place)),
-            NumberRead::Absent(next) => LimitRead::Got(FREE, next),
-            NumberRead::Present(raw, next) => {
-                let strict = MARK <= raw;
-                let rest = raw % MARK;
-                let value = in_seconds(rest, BOUND_SIGN);
-                if value.beyond(BOUND_LIMIT) {
-                    return LimitRead::Faulty(Fault::Bound(place));
-                }
-                LimitRead::Got(
-                    Limit {
-                        has: true,
-                        strict,
-                        value,
-                    },
-                    next,
-                )
-            }
-        }
-    }
-}
-
-// An entry as a bound that is not strict.
-pub fn unmarked(slot: Slot) -> Limit
-    ensures { result ≡ Faults.unmarked slot }
+// A time as a bound that is not strict.
+pub fn unmarked(time: Option<Seconds>) -> Option<Limit>
+    ensures { result ≡ Faults.unmarked time }
 {
-    let value = slot.value;
-    Limit {
-        has: slot.has,
+    time.map(|value| Limit {
         strict: false,
         value,
-    }
+    })
 }
 
-// The table: n rows of n times. It ends at the first faulty entry or row without a time.
-fn times(s: &[u8], start: Cursor, n: usize) -> SlotsRead
-    requires { From s.now most_table_bits start.at × Departures n }
-    ensures { Stored nothing s.now (start.at + most_table_bits) (rows s.now n n start.at []) result.slots result.next }
-{
-    let mut slots = [NOTHING; BOUNDS];
-    let mut cursor = start;
-    let mut next = Next::At(start);
-    let mut k: usize = 0;
-    'rows: for row in 0..n {
-        let first = cursor.at;
-        let mut some = false;
-        for column in 0..n {
-            match cursor.time(s) {
-                SlotRead::Faulty(f) => {
-                    next = Next::Faulty(f);
-                    break 'rows;
-                }
-                SlotRead::Got(slot, after) => {
-                    slots[k] = slot;
-                    k += 1;
-                    some = some | slot.has;
-                    cursor = after;
-                }
+// A packed case in a form, and the place of the next bit. Its methods hand back the next cursor with the field.
+#[derive(Clone, Copy)]
+struct Cursor<'a> {
+    bytes: &'a [u8],
+    form: Form,
+    at: usize,
+    ghost form_few: { FormLimits form },
+    ghost within: { at ≤ 8 * length bytes.now },
+}
+
+impl Cursor<'_> {
+    ghost use Rattle.std.specs.Prelude.{[], Ok};
+    ghost use Rattle.std.specs.Result.{result_and};
+    ghost use Rattle.model.specs.Packed.{bits, entry, entries, rows};
+    ghost use Rattle.packed.specs.Readings.{Reads, filled, row_of};
+
+    #[tactic(auto, unfolding(model::specs::Packed::bit_at))]
+    fn bit(self, place: usize) -> u32
+        requires { place < 8 * length self.bytes.now }
+        ensures { result ≡ bit_at self.entry.bytes.now place }
+    {
+        u32::from(self.bytes[place / 8] >> (7 - place % 8)) % 2
+    }
+
+    // Some bits as a number, of a field that starts at place first.
+    #[tactic(auto, using(crate::proofs::Laws::number_turns), unfolding(model::specs::Packed::bits))]
+    fn bits(mut self, width: usize, first: usize) -> Result<(u32, Self), Fault>
+        requires { (self.at + width ≤ most_bits) × (width ≤ most_width) }
+        ensures reads { Reads self.entry width result (λ s p. bits s width first p) }
+        ensures small { IfOk result (λ field. field.0 < 2 ^ width) }
+    {
+        let end = self.at + width;
+        if self.bytes.len() < end.div_ceil(8) {
+            return Err(Fault::CaseEnds(first));
+        }
+        let mut number = 0;
+        for place in self.at..end {
+            number = number * 2 + self.bit(place);
+        }
+        self.at = end;
+        Ok((number, self))
+    }
+
+    // A field that is a number alone.
+    fn number(self, width: usize) -> Result<(u32, Self), Fault>
+        requires { (self.at + width ≤ most_bits) × (width ≤ most_width) }
+        ensures reads { Reads self.entry width result (λ s p. bits s width p p) }
+        ensures small { IfOk result (λ field. field.0 < 2 ^ width) }
+    {
+        self.bits(width, self.at)
+    }
+
+    // An entry: a presence bit, then its number if that is 1.
+    #[tactic(auto, unfolding(model::specs::Packed::entry))]
+    fn entry<E: Readable>(self) -> Result<(Option<E>, Self), Fault>
+        requires { self.at + (1 + (E.kind self.form).width) ≤ most_bits }
+        ensures { Reads self.entry (1 + (E.kind self.entry.form).width) result (entry (E.kind self.entry.form)) }
+    {
+        let first = self.at;
+        let (present, cursor) = self.bits(1, first)?;
+        if present == 0 {
+            return Ok((None, cursor));
+        }
+        let (raw, cursor) = cursor.bits(E::width(self.form), first)?;
+        Ok((Some(E::value(raw, first)?), cursor))
+    }
+
+    // As many entries as there are places.
+    #[tactic(auto, using(crate::proofs::Laws::room_more, crate::proofs::Laws::entries_none))]
+    fn entries<E: Readable>(mut self, places: &mut [Option<E>]) -> Result<Self, Fault>
+        requires { self.at + length places.old * (1 + (E.kind self.form).width) ≤ most_bits }
+        ensures { Reads self.entry (length places.old * (1 + (E.kind self.entry.form).width)) (filled result places.new)
+            (λ s p. entries (E.kind self.entry.form) s (length places.old) p []) }
+    {
+        for place in places {
+            (*place, self) = self.entry()?;
+        }
+        Ok(self)
+    }
+
+    // A row of the table: at least one of its times is there.
+    #[tactic(auto, unfolding(crate::specs::Readings::row_of))]
+    fn row(self, times: &mut [Option<Seconds>]) -> Result<Self, Fault>
+        requires { self.at + length times.old * (1 + time_width) ≤ most_bits }
+        ensures { Reads self.entry (length times.old * (1 + time_width)) (filled result times.new) (row_of (length times.old)) }
+    {
+        let next = self.entries(times)?;
+        if !times.iter().any(|time| time.is_some()) {
+            return Err(Fault::EmptyRow(self.at));
+        }
+        Ok(next)
+    }
+
+    // The table: n rows of n times.
+    #[tactic(auto, using(crate::proofs::Laws::rows_none))]
+    fn table(mut self, n: usize, times: &mut [Option<Seconds>]) -> Result<Self, Fault>
+        requires { (self.at + most_times * (1 + time_width) ≤ most_bits) × Departures n × (length times.old ≡ n * n) }
+        ensures { Reads self.entry (most_times * (1 + time_width)) (filled result times.new) (λ s p. rows s n n p []) }
+    {
+        for i in 0..n {
+            self = self.row(&mut times[i * n..(i + 1) * n])?;
+        }
+        Ok(self)
+    }
+
+    // Zero bits up to a whole byte, and no byte more.
+    #[tactic(auto, using(crate::proofs::Laws::zeros_more))]
+    fn padding(self) -> Result<(), Fault>
+        requires { self.at ≤ most_bits }
+        ensures { result_and result (Ok 0) ≡ outcome_of (fill self.entry.bytes.now self.entry.at) }
+    {
+        let end = self.at.next_multiple_of(8);
+        for place in self.at..end {
+            if self.bit(place) != 0 {
+                return Err(Fault::FillBit(place));
             }
         }
-        if !some {
-            next = Next::Faulty(Fault::EmptyRow(first));
-            break 'rows;
+        if end / 8 < self.bytes.len() {
+            return Err(Fault::ExtraByte(end));
         }
-        next = Next::At(cursor);
+        Ok(())
     }
-    SlotsRead { slots, next }
-}
 
-// A pattern: n * (n + 1) bounds. Where there is a fault already, it stays.
-fn bounds(s: &[u8], from: Next, n: usize, form: Form) -> LimitsRead
-    requires { From s.now most_pattern_bits (place_of from) × Departures n × FormLimits form }
-    ensures { Stored (Faults.unmarked nothing) s.now (place_of from + most_pattern_bits)
-        (and_then (next_read from) (λ z p. bounds_of form s.now n p)) result.limits result.next }
-{
-    let mut limits = [FREE; BOUNDS];
-    let mut cursor = match from {
-        Next::Faulty(_) => return LimitsRead { limits, next: from },
-        Next::At(start) => start,
-    };
-    let count = n * (n + 1);
-    for i in 0..count {
-        match cursor.bound(s, form) {
-            LimitRead::Faulty(f) => {
-                let next = Next::Faulty(f);
-                return LimitsRead { limits, next };
-            }
-            LimitRead::Got(limit, after) => {
-                limits[i] = limit;
-                cursor = after;
-            }
-        }
+    // What follows the two numbers.
+    #[tactic(auto, unfolding(model::specs::Packed::body))]
+    fn body(self, n: usize, horizon: Cycle) -> Result<Case, Fault>
+        requires { (self.at + (most_times * (1 + time_width) + 2 * (most_bounds * (1 + most_width))) ≤ most_bits) × Departures n }
+        ensures { result ≡ outcome_of (body self.entry.form self.entry.bytes.now n horizon.0 self.entry.at) }
+    {
+        let mut times = [None; BOUNDS];
+        let mut start = [None; BOUNDS];
+        let mut target = [None; BOUNDS];
+        let bounds = n * (n + 1);
+        let cursor = self.table(n, &mut times[..n * n])?;
+        let cursor = cursor.entries(&mut start[..bounds])?;
+        let cursor = cursor.entries(&mut target[..bounds])?;
+        cursor.padding()?;
+        Ok(Case {
+            n,
+            horizon,
+            times,
+            start,
+            target,
+        })
     }
-    let next = Next::At(cursor);
-    LimitsRead { limits, next }
-}
-
-// Zero bits up to a whole byte, and no byte more. Where there is a fault already, it stays.
-fn padding(s: &[u8], from: Next) -> Next
-    requires { From s.now 0 (place_of from) }
-    ensures { next_read result ≡ and_then (next_read from) (λ z p. fill s.now p) }
-{
-    let at = match from {
-        Next::Faulty(_) => return from,
-        Next::At(start) => start.at,
-    };
-    let count = (8 - at % 8) % 8;
-    for i in 0..count {
-        let place = at + i;
-        if bit_at(s, place) != 0 {
-            return Next::Faulty(Fault::FillBit(place));
-        }
-    }
-    let end = at + count;
-    if end / 8 < s.len() {
-        return Next::Faulty(Fault::ExtraByte(end));
-    }
-    Next::At(Cursor { at: end })
-}
-
-fn empty() -> Case
-    ensures { result ≡ case_of 0 0 [] [] [] }
-{
-    Case {
-        n: 0,
-        horizon: Cycle(0),
-        times: [NOTHING; BOUNDS],
-        start: [FREE; BOUNDS],
-        target: [FREE; BOUNDS],
-    }
-}
-
-fn refused(f: Fault) -> Unpacked
-    ensures { result ≡ unpacked (Packed.refused f) }
-{
-    let judged = Judged::Refused(f);
-    let case = empty();
-    Unpacked { judged, case }
-}
-
-// What follows the two numbers.
-fn rest(s: &[u8], first: Cursor, n: usize, horizon: Cycle, form: Form) -> Unpacked
-    requires { From s.now (most_table_bits + 2 * most_pattern_bits) first.at × Departures n × FormLimits form }
-    ensures { result ≡ unpacked (body form s.now n horizon.0 first.at) }
-{
-    let table = times(s, first, n);
-    let after_times = table.next;
-    let from = bounds(s, after_times, n, form);
-    let after_start = from.next;
-    let to = bounds(s, after_start, n, form);
-    let after_target = to.next;
-    if let Next::Faulty(f) = padding(s, after_target) {
-        return refused(f);
-    }
-    let times = table.slots;
-    let start = from.limits;
-    let target = to.limits;
-    let case = Case {
-        n,
-        horizon,
-        times,
-        start,
-        target,
-    };
-    let judged = Judged::Accepted;
-    Unpacked { judged, case }
 }
 
 // The whole case in a form, or its first fault.
-fn read_as(s: &[u8], form: Form) -> Unpacked
+#[tactic(auto, unfolding(model::specs::Packed::parse_as))]
+fn read_as(bytes: &[u8], form: Form) -> Result<Case, Fault>
     requires { FormLimits form }
-    ensures { result ≡ unpacked (parse_as form s.now) }
+    ensures { result ≡ outcome_of (parse_as form bytes.now) }
 {
-    let start = Cursor { at: 0 };
-    let Field::Got(lead, after_lead) = start.bits(s, form.lead) else {
-        return refused(Fault::CaseEnds(0));
-    };
-    let other = lead != 0;
-    if other {
-        return refused(Fault::Departures);
+    let cursor = Cursor { bytes, form, at: 0 };
+    let (lead, cursor) = cursor.number(form.lead)?;
+    if lead != 0 {
+        return Err(Fault::Departures);
     }
-    let first = after_lead.at;
-    let Field::Got(n, after_n) = after_lead.bits(s, form.digits) else {
-        return refused(Fault::CaseEnds(first));
-    };
+    let (n, cursor) = cursor.number(form.digits)?;
     if n == 0 {
-        return refused(Fault::Departures);
+        return Err(Fault::Departures);
     }
-    let second = after_n.at;
-    let Field::Got(m, next) = after_n.bits(s, HORIZON_WIDTH) else {
-        return refused(Fault::CaseEnds(second));
-    };
-    let horizon = (m as usize) + 1;
-    rest(s, next, n as usize, Cycle(horizon), form)
+    let (more, cursor) = cursor.number(HORIZON_WIDTH)?;
+    cursor.body(n as usize, Cycle(more as usize + 1))
 }
 
 // A case in document 01's form.
-pub fn read_old(s: &[u8]) -> Unpacked
-    ensures { result ≡ unpacked (parse_as old s.now) }
+pub fn read_old(bytes: &[u8]) -> Result<Case, Fault>
+    ensures { result ≡ outcome_of (parse_as old bytes.now) }
 {
-    read_as(s, OLD)
+    read_as(bytes, OLD)
 }
 
 // A case in the wide form.
-pub fn read_wide(s: &[u8]) -> Unpacked
-    ensures { result ≡ unpacked (parse_as wide s.now) }
+pub fn read_wide(bytes: &[u8]) -> Result<Case, Fault>
+    ensures { result ≡ outcome_of (parse_as wide bytes.now) }
 {
-    read_as(s, WIDE)
+    read_as(bytes, WIDE)
 }
 
 // A case in either form: the zero bits in front tell the wide one.
-pub fn read(s: &[u8]) -> Unpacked
-    ensures { result ≡ unpacked (parse s.now) }
+#[tactic(auto, unfolding(model::specs::Packed::parse))]
+pub fn read(bytes: &[u8]) -> Result<Case, Fault>
+    ensures { result ≡ outcome_of (parse bytes.now) }
 {
-    let start = Cursor { at: 0 };
     let form = WIDE;
-    let Field::Got(lead, _) = start.bits(s, form.lead) else {
-        return refused(Fault::CaseEnds(0));
-    };
-    let wide = lead == 0;
-    if wide {
-        return read_wide(s);
+    let cursor = Cursor { bytes, form, at: 0 };
+    let (lead, _) = cursor.number(form.lead)?;
+    if lead == 0 {
+        read_wide(bytes)
+    } else {
+        read_old(bytes)
     }
-    read_old(s)
 }

@@ -8,7 +8,8 @@ use mathlib.Core.List.{List, [], ◌∷◌, ◌++◌, append_assoc, append-nil}
 use lib.ListN.{length, get_or, drop, set, length-append, length-drop, length-set}
 use lib.Seq.{drop-cons, set_at, append_snoc}
 use lib.Arith.{digits_lt}
-use lib.Pow.{pow-add, pow_pos, high, low}
+use lib.Pow.{pow-add, pow_mono, pow_pos, shl_exact, shr_lt, high, low}
+use Rattle.model.specs.Sizes.{most_width}
 use Rattle.model.specs.Lists.{tabulate, done}
 use Rattle.model.specs.Packed.{num_of}
 use Rattle.model.specs.Writing.{field_bits, bytes_of}
@@ -23,42 +24,40 @@ use Rattle.model.proofs.Spelled.{length_field}
 use Rattle.packer.proofs.Spelling.{num_add, field_bits_lem, num_front, num_field}
 
 -- ---- nothing, and one thing behind another
-pub extends_nothing : {pen : Pen} {out : List ℕ} → pen.part < 2 ^ pen.held → Extends [] pen out pen out
-extends_nothing h = record { small = h; place = omega arith; kept = refl; inked = λ first before i. rw append-nil i }
+pub extends_nothing : {pen : Pen} → pen.part < 2 ^ pen.held → Extends [] pen pen
+extends_nothing h = record { small = h; place = omega arith; same = refl; kept = refl; inked = λ first before i. rw append-nil i }
 
-pub extends_then : {a b : List ℕ} {pen next last : Pen} {out mid after : List ℕ}
-    → Extends a pen out next mid → Extends b next mid last after → Extends (a ++ b) pen out last after
+pub extends_then : {a b : List ℕ} {pen next last : Pen} → Extends a pen next → Extends b next last → Extends (a ++ b) pen last
 extends_then {a} {b} p q = record {
   small = q.small;
   place = omega (arith, length-append a b);
+  same = q.same ∙ p.same;
   kept = q.kept ∙ p.kept;
   inked = λ first before i. rw append_assoc at (q.inked first (before ++ a) (p.inked first before i));
 }
 
-pub inks_then : {a b : List ℕ} {pen next last : Pen} {out mid after : List ℕ}
-    → Inks a pen out next mid → Inks b next mid last after → Inks (a ++ b) pen out last after
+pub inks_then : {a b : List ℕ} {pen next last : Pen} → Inks a pen next → Inks b next last → Inks (a ++ b) pen last
 inks_then p q = (extends_then p.0 q.0, q.1)
 
 -- ---- the first pen
-abbrev pub first_pen : Pen
-first_pen = record { full = 0; held = 0; part = 0 }
-
-pub inked_first : (out : List ℕ) → Inked out [] first_pen out
+pub inked_first : (pen : Pen) → pen.full ≡ 0 → pen.held ≡ 0 → pen.part ≡ 0 → Inked pen.out.now [] pen
 unfolding num_of tabulate
-inked_first out = record { bits = done; long = refl; spells = refl; stored = refl }
-
-pub can_first : (bs out : List ℕ) → length (bytes_of bs) ≤ length out → CanInk (length bs) first_pen out
-can_first bs out h = omega (arith, length_bytes bs)
+inked_first pen f h p = record { bits = done; long = omega arith; spells = rw (p, h); stored = rw f }
 
 -- ---- a field taken up: its bits are held behind those that were
 abbrev pub taken : Pen → ℕ → ℕ → Pen
-taken pen w v = record { full = pen.full; held = pen.held + w; part = pen.part * 2 ^ w + v }
+taken pen w v = record pen { held = pen.held + w; part = pen.part * 2 ^ w + v }
 
-module _ (pen : Pen) (out : List ℕ) (w v : ℕ) (small : pen.part < 2 ^ pen.held) (h : v < 2 ^ w) where
-  pub extends_field : Extends (field_bits w v) pen out (taken pen w v) out
+module _ (pen : Pen) (w v : ℕ) (can : CanInk w pen) (few : w ≤ most_width) (h : v < 2 ^ w) where
+  -- the held bits make room for it, and none is lost
+  pub moved : pen.part * 2 ^ w % 2 ^ 32 ≡ pen.part * 2 ^ w
+  moved = shl_exact pen.held w 32 can.small (omega (arith, can.few))
+
+  pub extends_field : Extends (field_bits w v) pen (taken pen w v)
   extends_field = record {
-    small = rw (pow-add 2 pen.held w) (digits_lt small h);
+    small = rw (pow-add 2 pen.held w) (digits_lt can.small h);
     place = omega (arith, length_field w v);
+    same = refl;
     kept = refl;
     inked = λ first before i.
         let all = before ++ field_bits w v in
@@ -77,6 +76,11 @@ module _ (pen : Pen) (out : List ℕ) (w v : ℕ) (small : pen.part < 2 ^ pen.he
         };
   }
 
+  pub taken_fits : pen.part * 2 ^ w % 2 ^ 32 + v < 2 ^ 32
+  taken_fits =
+      let m : 2 ^ (pen.held + w) ≤ 2 ^ 31 = pow_mono {j = 31} (omega (arith, can.few)) in
+      rw moved (omega (arith, extends_field.small))
+
 -- ---- a byte stored: of eight bits and r more the first eight
 -- one more of the numbers f 0, f 1, .. in front of a list
 stored_next : (f : ℕ → ℕ) (n : ℕ) (xs : List ℕ) → n < length xs → set (tabulate n 0 f ++ drop n xs) n (f n) ≡ tabulate (n + 1) 0 f ++ drop (n + 1) xs
@@ -86,20 +90,26 @@ stored_next f n xs h =
     ∙ sym (append_snoc (tabulate n 0 f) (f n) (drop (suc n) xs)))
 
 abbrev pub rest : Pen → ℕ → Pen
-rest pen r = record { full = pen.full + 1; held = r; part = pen.part % 2 ^ r }
+rest pen r = record {
+  out = record pen.out { now = set pen.out.now pen.full (pen.part / 2 ^ r) };
+  full = pen.full + 1;
+  held = r;
+  part = pen.part % 2 ^ r;
+}
 
-module _ (pen : Pen) (out : List ℕ) (r : ℕ) (e : pen.held ≡ 8 + r) (room : pen.full < length out) where
-  pub extends_byte : Extends [] pen out (rest pen r) (set out pen.full (pen.part / 2 ^ r))
+module _ (pen : Pen) (r : ℕ) (e : pen.held ≡ 8 + r) (room : pen.full < length pen.out.now) where
+  pub extends_byte : Extends [] pen (rest pen r)
   extends_byte = record {
     small = mod-lt pen.part (pow_pos r);
     place = omega arith;
-    kept = length-set out pen.full (pen.part / 2 ^ r);
+    same = refl;
+    kept = length-set pen.out.now pen.full (pen.part / 2 ^ r);
     inked = λ first before i.
         let f = bit_of before in
         let at = 8 * pen.full in
         let two : pen.part ≡ num_of f at 8 * 2 ^ r + num_of f (at + 8) r = i.spells ∙ ap (num_of f at) e ∙ num_add f at 8 r in
         let below = num_below f (at_get_d {P = λ b. b ≤ 1} 0 (omega arith) i.bits) (at + 8) r in
-        let size : length out ≡ pen.full + (length first - pen.full) = rw (i.stored, length-append, length_tabulate, length-drop) refl in
+        let size : length pen.out.now ≡ pen.full + (length first - pen.full) = rw (i.stored, length-append, length_tabulate, length-drop) refl in
         rw append-nil (record {
           bits = i.bits;
           long = omega (arith, i.long);
@@ -107,6 +117,13 @@ module _ (pen : Pen) (out : List ℕ) (r : ℕ) (e : pen.held ≡ 8 + r) (room :
           stored = rw (i.stored, two, high (num_of f at 8) r below) (stored_next (λ k. num_of f (8 * k) 8) pen.full first (omega arith));
         });
   }
+
+-- what is stored is a byte
+pub byte_fits : (pen : Pen) → pen.part < 2 ^ pen.held → 8 ≤ pen.held → pen.part / 2 ^ (pen.held - 8) < 2 ^ 8
+byte_fits pen small h = let e : pen.held ≡ 8 + (pen.held - 8) = omega arith in shr_lt 8 (pen.held - 8) (rw e at small)
+
+-- what the proof of a field's bits uses
+pub ruleset fields = (byte_fits, length_field)
 
 -- ---- the last byte, filled with zero bits
 zeros_behind : (bs : List ℕ) (w q : ℕ) → bit_of (bs ++ field_bits w 0) q ≡ bit_of bs q
@@ -119,11 +136,14 @@ zeros_behind (b ∷ bs) w (suc q) = zeros_behind bs w q
 abbrev pub unfilled : ℕ → ℕ
 unfilled held = (8 - held) % 8
 
-pub fills : (pen next : Pen) (out after : List ℕ) → pen.held < 8 → Inks (field_bits (unfilled pen.held) 0) pen out next after → Filled pen out after
+pub fills : {pen next : Pen} → pen.held < 8 → Inks (field_bits (unfilled pen.held) 0) pen next → Filled pen next
 unfolding bytes_of
-fills pen next out after few h first bs i =
-    let w = unfilled pen.held in
-    let j = h.0.inked first bs i in
-    let e : next.full ≡ (length bs + 7) / 8 = omega (arith, i.long, j.long, length-append bs (field_bits w 0), length_field w 0) in
-    j.stored ∙ rw (length_bytes bs, ← e) (ap (λ (x : List ℕ). x ++ drop next.full first)
-    (tabulate_ext next.full 0 _ _ (λ k l u. num_same _ _ (8 * k) (8 * k) 8 (λ m g. zeros_behind bs w (8 * k + m)))))
+fills {pen} {next} few h = record {
+  same = h.0.same;
+  bytes = λ first bs i.
+      let w = unfilled pen.held in
+      let j = h.0.inked first bs i in
+      let e : next.full ≡ (length bs + 7) / 8 = omega (arith, i.long, j.long, length-append bs (field_bits w 0), length_field w 0) in
+      j.stored ∙ rw (length_bytes bs, ← e) (ap (λ (x : List ℕ). x ++ drop next.full first)
+      (tabulate_ext next.full 0 _ _ (λ k l u. num_same _ _ (8 * k) (8 * k) 8 (λ m g. zeros_behind bs w (8 * k + m)))));
+}

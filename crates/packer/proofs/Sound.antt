@@ -1,107 +1,133 @@
--- A case by its entries: what it keeps to where it has no fault, and its bits part by part.
-use Prim.Native.Nat.{ℕ, zero, suc, ◌+◌, ◌-◌, ◌^◌}
+-- A case in a form: its bits part by part, what it keeps to where it has no fault, and what the writer answers.
+use Prim.Native.Nat.{ℕ, ◌+◌, ◌*◌, ◌/◌, ◌≤◌, ◌<◌}
 use native.Mathlib.Omega.{arith}
-use native.Mathlib.Nat.{zero-add}
-use mathlib.Core.Path.{◌≡◌, refl, ap, ap₂}
+use native.Mathlib.Numerals.{add-one}
+use mathlib.Core.Path.{◌≡◌, sym}
 use mathlib.Core.Option.{none}
-use mathlib.Core.List.{List, [], ◌∷◌, ◌++◌, map, flat_map}
-use lib.ListN.{length, take, length-append, length-map}
-use Rattle.model.specs.Sizes.{most_bounds, time_limit, time_width, table_size, pattern_size}
-use Rattle.model.specs.declared.Slot.{Slot}
-use Rattle.model.specs.declared.Limit.{Limit}
+use mathlib.Core.List.{List, ◌++◌, append_assoc}
+use lib.ListN.{length, take, drop, length-append}
+use lib.Pow.{pow_pos}
+use borrow.Author.Tests.{lt-ltb, le-ltb}
+use Rattle.std.specs.Prelude.{Ok, Err}
+use Rattle.model.specs.Sizes.{most_bounds, horizon_width, time_limit, pattern_size}
 use Rattle.model.specs.declared.Case.{Case}
 use Rattle.model.specs.declared.Form.{Form}
+use Rattle.model.specs.declared.Fault.{Fault}
 use Rattle.model.specs.declared.Fault.TheVariants as fault
-use Rattle.model.specs.Lists.{Every}
-use Rattle.model.specs.Conditions.{FormLimits, InLimit, BoundIn}
-use Rattle.model.specs.Faults.{stated, unmarked, outside, patterns_fault, case_fault, form_fault}
-use Rattle.model.specs.Packed.{raw_of, time_kind, bound_kind}
-use Rattle.model.specs.Writing.{entry_bits, entries_bits, head_bits, case_bits, Whole}
-use Rattle.model.proofs.Complement.{in_half, time_lawful, bound_lawful}
+use Rattle.model.specs.Conditions.{FormLimits}
+use Rattle.model.specs.Faults.{outside, patterns_fault, case_fault, form_fault}
+use Rattle.model.specs.Answers.{judged}
+use Rattle.model.specs.Packed.{time_kind, bound_kind}
+use Rattle.model.specs.Writing.{entries_bits, head_bits, case_bits, packed_as, write_fault, room_for, told, output_after, Whole}
+use Rattle.model.proofs.Bytes.{length_bytes}
 use Rattle.model.proofs.Inverse.{bits_append}
-use Rattle.model.proofs.Listed.{every_map, map_every}
-use Rattle.model.proofs.Limits.{no_fault, over_none, bound_fault_in_none, form_case, rows_in}
+use Rattle.model.proofs.Listed.{every_map}
+use Rattle.model.proofs.Limits.{form_case, no_fault, over_none, bound_fault_in_none, rows_in}
 use Rattle.model.proofs.Places.{table_fits, pattern_fits}
-use Rattle.judge.proofs.Laws.{case_departures}
-use Rattle.packer.specs.Ink.{time_widths, bound_widths, of_widths, Narrow, AllIn, times_bits, patterns_bits, form_bits, Sound, EntriesOf}
+use Rattle.model.proofs.Spelled.{length_field}
+use Rattle.model.proofs.Outcomes.{judged_err, judged_ok, judgements}
+use Rattle.judge.proofs.Laws.{case_departures, known_departures}
+use Rattle.packer.specs.Ink.{Sound}
 
--- ---- entries in their limits
-time_narrow : (e : Slot) → InLimit time_limit e → Narrow time_widths (unmarked e)
-time_narrow e h = record {
-  value_small = λ t. in_half (omega arith) e t h;
-  number_small = λ t. omega (arith, time_lawful.raw_small e t (λ p. (over_none time_limit fault.Time p e).1 h));
-}
+-- the bits of the fields in front
+pub length_head : (f : Form) (n h : ℕ) → length (head_bits f n h) ≡ f.lead + f.digits + horizon_width
+length_head f n h = simp (length-append, length_field)
 
-bound_narrow : {f : Form} → FormLimits f → (e : Limit) → BoundIn f e → Narrow (bound_widths f) e
-bound_narrow {f} lim e h = record {
-  value_small = λ t. in_half (omega arith) (stated e) t h.0;
-  number_small = λ t. (bound_lawful lim).raw_small e t (λ p. (bound_fault_in_none f p e).1 h);
-}
+pub ruleset head_lengths = (length_head, length_field, pow_pos)
 
--- ---- times as bounds that are not strict
-take_map : {A B : Type 0} (f : A → B) (n : ℕ) (xs : List A) → take n (map f xs) ≡ map f (take n xs)
-take_map f zero xs = refl
-take_map f (suc n) [] = refl
-take_map f (suc n) (x ∷ xs) = ap (λ ys. f x ∷ ys) (take_map f n xs)
+module _ (f : Form) (c : Case) where
+  abbrev size : ℕ
+  size = c.n * (c.n + 1)
 
--- their bits are the same
-entry_unmarked : (e : Slot) → entry_bits time_kind e ≡ entry_bits (of_widths time_widths) (unmarked e)
-unfolding entry_bits
-entry_unmarked e = rw (zero-add (raw_of (2 ^ (time_width - 1)) e.value.0))
+  -- its bits part by part
+  pub case_parts : case_bits f c
+      ≡ head_bits f c.n c.horizon.0 ++ entries_bits time_kind (take (c.n * c.n) c.times)
+      ++ entries_bits (bound_kind f) (take size c.start) ++ entries_bits (bound_kind f) (take size c.target)
+  unfolding case_bits
+  case_parts =
+      let front = head_bits f c.n c.horizon.0 ++ entries_bits time_kind (take (c.n * c.n) c.times) in
+      rw (add-one c.n) (rw (bits_append (bound_kind f) (take (pattern_size c.n) c.start) (take (pattern_size c.n) c.target)) (sym (append_assoc front _ _)))
 
-bits_unmarked : (es : List Slot) → entries_bits time_kind es ≡ entries_bits (of_widths time_widths) (map unmarked es)
-unfolding entries_bits flat_map
-bits_unmarked [] = refl
-bits_unmarked (e ∷ es) = ap₂ ◌++◌ (entry_unmarked e) (bits_unmarked es)
+  -- how many they are
+  pub case_length : length (case_bits f c)
+      ≡ f.lead + f.digits + horizon_width + length (entries_bits time_kind (take (c.n * c.n) c.times))
+      + length (entries_bits (bound_kind f) (take size c.start)) + length (entries_bits (bound_kind f) (take size c.target))
+  case_length = rw case_parts (simp (length-append, length_field))
 
--- ---- the case
-module _ (f : Form) (c : Case) {times start target : List Limit} (entries : EntriesOf c times start target) where
-  module _ (lim : FormLimits f) (h : form_fault f c ≡ none) where
-    bounded : (bounds : List Limit) → Every (BoundIn f) (take (pattern_size c.n) bounds) → AllIn (bound_widths f) (pattern_size c.n) bounds
-    bounded bounds small = record { within = pattern_fits (case_departures c (form_case f c h)); narrow = every_map (bound_narrow lim) small }
+  -- how many bytes they are
+  pub packed_length : length (packed_as f c) ≡ (length (case_bits f c) + 7) / 8
+  unfolding packed_as
+  packed_length = length_bytes (case_bits f c)
 
-    -- it keeps to its limits
-    pub sound : Sound f c.n c.horizon.0 times start target
-    unfolding form_fault patterns_fault outside
-    sound =
-        let facts = simp no_fault at h in
-        let n = case_departures c (form_case f c h) in
-        record {
-          departures = n;
-          numbers_in = record { form = lim; place = facts.1.0; some_cycles = omega arith; few_cycles = omega arith };
-          times_held = rw entries.times_are (record {
-            within = omega (arith, table_fits n);
-            narrow = rw (take_map unmarked (table_size c.n) c.times) (map_every unmarked (every_map time_narrow (rows_in facts.1.1.0.1)));
-          });
-          patterns_in = record {
-            form = lim;
-            start_held = rw entries.start_are (bounded c.start facts.1.1.1.0);
-            target_held = rw entries.target_are (bounded c.target facts.1.1.1.1);
-          };
-        }
-
-  -- its arrays are long enough, as those of its entries are
-  pub whole : case_fault c ≡ none → length times ≡ most_bounds → length start ≡ most_bounds → length target ≡ most_bounds → Whole c
-  whole h t s g =
-      let n = case_departures c h in
-      let in-times = rw (entries.times_are, length-map c.times unmarked) at t in
+  -- it keeps to its limits
+  pub sound : FormLimits f → judged (form_fault f c) ≡ Ok tt → Sound f c
+  unfolding form_fault patterns_fault outside
+  sound limits j =
+      let ((one, few), (place, (((some_cycles, few_cycles), rows), (start, target)))) = simp no_fault at (judged_ok (form_fault f c) tt j) in
       record {
-        times = omega (arith, table_fits n, in-times);
-        start = omega (arith, pattern_fits n, rw entries.start_are at s);
-        target = omega (arith, pattern_fits n, rw entries.target_are at g);
+        limits = limits;
+        departures = record { some = one; few = few };
+        numbers = record { place = place; some_cycles = some_cycles; few_cycles = few_cycles };
+        times = every_map (λ e in_limit p. (over_none time_limit fault.Time p e).1 in_limit) (rows_in rows);
+        start = rw add-one (every_map (λ e bound_in p. (bound_fault_in_none f p e).1 bound_in) start);
+        target = rw add-one (every_map (λ e bound_in p. (bound_fault_in_none f p e).1 bound_in) target);
       }
 
-  -- and its bits are those of its entries
-  pub case_bits_lem : case_bits f c ≡ form_bits f c.n c.horizon.0 times start target
-  unfolding case_bits form_bits entries_bits entry_bits
-  case_bits_lem =
-      let size = pattern_size c.n in
-      rw (entries.times_are, entries.start_are, entries.target_are, take_map unmarked (table_size c.n) c.times)
-      (ap₂ (λ (x y : List ℕ). head_bits f c.n c.horizon.0 ++ x ++ y)
-      (bits_unmarked (take (table_size c.n) c.times)) (bits_append (bound_kind f) (take size c.start) (take size c.target)))
+pub ruleset case_lengths = (case_length, length_head, packed_length)
 
-pub form_length : (f : Form) (n h : ℕ) (times start target : List Limit) → let size = pattern_size n in
-    length (form_bits f n h times start target)
-    ≡ length (head_bits f n h) + length (times_bits n times) + length (patterns_bits f size start target)
-unfolding form_bits
-form_length f n h times start target = simp length-append
+-- ---- what the writer answers, and the output afterwards
+module _ (f : Form) (c : Case) (out : List ℕ) where
+  -- the case has a fault
+  module _ (e : Fault) (j : judged (form_fault f c) ≡ Err e) where
+    pub answer_fault : told (write_fault f c (length out)) (packed_as f c) ≡ Err e
+    unfolding write_fault told
+    answer_fault = rw (judged_err (form_fault f c) e j)
+
+    pub output_fault : output_after (write_fault f c (length out)) (packed_as f c) out ≡ out
+    unfolding write_fault output_after
+    output_fault = rw (judged_err (form_fault f c) e j)
+
+  module _ (clean : form_fault f c ≡ none) where
+    -- the output is too short
+    module _ (h : length out < length (packed_as f c)) where
+      pub answer_short : told (write_fault f c (length out)) (packed_as f c) ≡ Err (fault.Output (length (packed_as f c)))
+      unfolding write_fault room_for told
+      answer_short = rw (clean, lt-ltb (length out) (length (packed_as f c)) h)
+
+      pub output_short : output_after (write_fault f c (length out)) (packed_as f c) out ≡ out
+      unfolding write_fault room_for output_after
+      output_short = rw (clean, lt-ltb (length out) (length (packed_as f c)) h)
+
+    -- it has room
+    module _ (h : length (packed_as f c) ≤ length out) where
+      pub answer_written : told (write_fault f c (length out)) (packed_as f c) ≡ Ok (length (packed_as f c))
+      unfolding write_fault room_for told
+      answer_written = rw (clean, le-ltb (length out) (length (packed_as f c)) h)
+
+      pub output_written : output_after (write_fault f c (length out)) (packed_as f c) out ≡ packed_as f c ++ drop (length (packed_as f c)) out
+      unfolding write_fault room_for output_after
+      output_written = rw (clean, le-ltb (length out) (length (packed_as f c)) h)
+
+-- arrays of the code's size are long enough
+pub whole : (c : Case) → length c.times ≡ most_bounds → length c.start ≡ most_bounds → length c.target ≡ most_bounds → case_fault c ≡ none → Whole c
+whole c t s g h =
+    let n = case_departures c h in
+    record {
+      times = omega (arith, table_fits n);
+      start = omega (arith, pattern_fits n);
+      target = omega (arith, pattern_fits n);
+    }
+
+pub ruleset writing = (
+  judgements,
+  known_departures,
+  case_lengths,
+  form_case,
+  answer_fault,
+  output_fault,
+  answer_short,
+  output_short,
+  answer_written,
+  output_written,
+  whole,
+)

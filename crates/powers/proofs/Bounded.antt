@@ -39,3 +39,8 @@ powers_small n a small r h = every_map (λ t l. omega arith) (power_small n a (e
 pub sum_small : {a b : List Time} → AtMost power_limit a → AtMost power_limit b → (k l : ℕ)
     → nat_abs (secs_of (after (get_or a k blank) (get_or b l blank))) < none_in
 sum_small {a} {b} p q k l = omega (arith, after_small (get_or a k blank) (get_or b l blank) (entry_small p k) (entry_small q l))
+
+-- an entry of their product
+pub product_entry : (n : ℕ) {a b : List Time} → AtMost power_limit a → AtMost power_limit b → (k : ℕ)
+    → nat_abs (secs_of (get_or (product n a b) k blank)) < none_in
+product_entry n p q k = omega (arith, entry_small (product_small n p q) k)

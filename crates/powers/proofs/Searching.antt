@@ -13,7 +13,7 @@ use lib.ListN.{length, take}
 use Rattle.model.specs.Sizes.{most_cycles, table_size}
 use Rattle.model.specs.Lists.{tabulate, same_lists}
 use Rattle.model.specs.Network.{Time, product, power, powers_from, added, gap, same_time, Repeat, repeats, first_repeat}
-use Rattle.model.proofs.Tabulated.{tabulate_ext, tabulate_snoc, from, from_first, from_next, from_end}
+use Rattle.model.proofs.Tabulated.{tabulate_ext, tabulate_snoc, from, from_next, from_end}
 use Rattle.model.proofs.Powers.{powers_from_is}
 use Rattle.memory.specs.Numbers.{times_in}
 use Rattle.powers.specs.Readings.{table_at, repeats_at, PlaceIn, Makeable, Made, Searchable}
@@ -29,9 +29,6 @@ module _ (f : ℕ → List Time) (b : List Time) (r : ℕ) where
   -- what is found from table p on
   abbrev pub found_from : ℕ → Option Repeat
   found_from p = repeats (suc r) (suc p) (from f r p) b
-
-  pub from_all : repeats (suc r) 1 (tabulate r 0 f) b ≡ found_from 0
-  from_all = rw (from_first f r 0 r (omega arith))
 
   module _ (p : ℕ) where
     pub found_later : p < r → Alike p ≡ false → found_from p ≡ found_from (p + 1)
@@ -92,6 +89,9 @@ pub record Looked (n : ℕ) (a : List Time) (before after : List ℤ) (r : ℕ) 
   pub held : (s : ℕ) → s < r + 1 → table_at n after s ≡ power n a s
   pub new : found n a ≡ left n a (r + 1)
   pub long : length after ≡ length before
+
+pub searchable : {n : ℕ} {times powers after : List ℤ} → Searchable n times powers → length after ≡ length powers → Searchable n times after
+searchable s e = record { ready = s.ready; room = omega (arith, s.room) }
 
 module _ {n : ℕ} {times powers : List ℤ} (s : Searchable n times powers) where
   abbrev a : List Time

@@ -1,5 +1,6 @@
 -- How the answer and the powers in memory are read, and the conditions of the functions on them.
 use Rattle.std.specs.Prelude.{ℕ, suc, ◌+◌, ◌*◌, ◌≤◌, ◌<◌, ℤ, nat_abs, length, take, drop, ◌≡◌, List, []}
+use Rattle.std.specs.Prelude as std
 use Rattle.std.proofs.Math.Option.{Option, none, some}
 use Rattle.model.specs.Sizes.{most_cycles, time_limit, table_size}
 use Rattle.model.specs.Lists.{tabulate, Every}
@@ -7,13 +8,12 @@ use Rattle.model.specs.Network.{Time, secs_of, product, powers_from, Repeat, rep
 use Rattle.model.specs.Conditions.{Departures, TableLimits}
 use Rattle.memory.specs.Numbers.{times_in}
 use Rattle.memory.specs.Conditions.{TableIn}
-use Rattle.powers.specs.declared.Repeated.{Repeated}
-use Rattle.powers.specs.declared.Repeated.TheVariants as repeated
+use Rattle.powers.specs.declared.Again.{Again}
 
 -- the answer
-abbrev pub repeat_read : Repeated → Option Repeat
-repeat_read repeated.None = none
-repeat_read (repeated.At a) = some (record { q = a.q; p = a.p; number = a.number.0 })
+abbrev pub repeat_read : std.Option Again → Option Repeat
+repeat_read std.None = none
+repeat_read (std.Some a) = some (record { q = a.q; p = a.p; number = a.number.0 })
 
 -- the first repeated power of a table in memory
 abbrev pub repeat_in : ℕ → List ℤ → Option Repeat
@@ -67,6 +67,11 @@ pub record EntryOf (n : ℕ) (first second : List ℤ) (i j : ℕ) : Type 0 wher
 pub record Makeable (n r : ℕ) (times powers : List ℤ) : Type 0 where
   pub factors : Factors n times (numbers_at n powers r)
   pub room : PlaceIn n (r + 1) powers
+
+-- its row i, counted from 0, is put there behind those before it, and nothing before them is changed
+pub record RowMade (n r i : ℕ) (times before after : List ℤ) : Type 0 where
+  pub is : times_in (take n (drop ((r + 1) * table_size n + i * n) after)) ≡ take n (drop (i * n) (product n (times_in times) (table_at n before r)))
+  pub front : take ((r + 1) * table_size n + i * n) after ≡ take ((r + 1) * table_size n + i * n) before
 
 -- it is put there, and nothing before it is changed
 pub record Made (n r : ℕ) (times before after : List ℤ) : Type 0 where

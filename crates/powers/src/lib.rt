@@ -2,17 +2,18 @@
 // numbers, made by a repeat expression: power r + 1 at place r, that is, from number r * (n * n) on.
 #![tactic(auto)]
 
-ghost use Rattle.std.specs.Prelude.{◌≡◌, ◌&&◌, ◌+◌, ◌*◌, ◌≤◌, ◌<◌, ◌-ℤ◌, nat_abs, length, take, drop, get_or};
-ghost use Rattle.model.specs.Sizes.{few_departures, table_size};
+ghost use Rattle.std.specs.Prelude.{◌≡◌, ◌&&◌, ◌+◌, ◌*◌, ◌≤◌, ◌<◌, ◌^◌, ◌-ℤ◌, nat_abs, length, take, drop, get_or};
+ghost use Rattle.model.specs.Sizes.{most_cycles, table_size};
 ghost use Rattle.model.specs.Lists.{same_lists};
 ghost use Rattle.model.specs.Network;
-ghost use Rattle.model.specs.Network.{blank, secs, is_time, secs_of, after, later, added, same_time};
+ghost use Rattle.model.specs.Network.{blank, secs, secs_of, after, added, same_time};
+ghost use Rattle.model.specs.Faults.{time_of};
 ghost use Rattle.memory.specs.Numbers.{none_in, time_in, times_in};
-ghost use Rattle.powers.specs.Readings.{repeat_read, repeat_in, repeats_at, PlaceIn, EntryOf, Makeable, Made, Advancing, TableReady, Searchable};
+ghost use Rattle.powers.specs.Readings.{repeat_read, repeat_in, repeats_at, PlaceIn, EntryOf, Makeable, RowMade, Made, Advancing, TableReady, Searchable};
 
 use ints::{Seconds, ZERO};
-use memory::NONE;
-use model::{CYCLES, FEW, TIMES};
+use memory::{NONE, Stored};
+use model::{CYCLES, FEW, TIMES, later_sum};
 
 // Power q is power p with number added.
 #[derive(Clone, Copy)]
@@ -22,45 +23,20 @@ pub struct Again {
     pub number: Seconds,
 }
 
-// The first repeated power, or none among the first CYCLES.
-#[derive(Clone, Copy)]
-pub enum Repeated {
-    None,
-    At(Again),
-}
+// The numbers of the first CYCLES powers of a table of few departures, and of any.
+const FEW_NUMBERS: usize = CYCLES * FEW * FEW;
 
-fn is_time(raw: i32) -> bool
-    ensures { result ≡ is_time (time_in raw) }
-{
-    raw != NONE
-}
+const MANY_NUMBERS: usize = CYCLES * TIMES;
 
-fn both_times(a: i32, b: i32) -> bool
-    ensures { result ≡ (is_time (time_in a) && is_time (time_in b)) }
+// The number in memory that stands for a time.
+fn raw_time(entry: Option<Seconds>) -> i32
+    requires { nat_abs (secs_of (time_of entry)) < none_in }
+    ensures { time_in result ≡ time_of entry }
 {
-    is_time(a) & is_time(b)
-}
-
-// How much later b is than a.
-fn apart(a: i32, b: i32) -> Seconds
-    ensures { result.0 ≡ b -ℤ a }
-{
-    Seconds::of(b).minus(Seconds::of(a))
-}
-
-// The later of a time and of the sum of two.
-fn later_sum(latest: i32, first: i32, second: i32) -> i32
-    requires { nat_abs (secs_of (after (time_in first) (time_in second))) < none_in }
-    ensures { time_in result ≡ later (time_in latest) (after (time_in first) (time_in second)) }
-{
-    if !both_times(first, second) {
-        return latest;
-    }
-    let sum = first + second;
-    if !is_time(latest) | (latest <= sum) {
-        return sum;
-    }
-    latest
+    let Some(time) = entry else {
+        return NONE;
+    };
+    time.0 as i32
 }
 
 // Entry (i, j) of a product: row i of the first table by column j of the second.
@@ -68,44 +44,33 @@ fn entry(first: &[i32], second: &[i32], n: usize, i: usize, j: usize) -> i32
     requires { EntryOf n first.now second.now i j }
     ensures { time_in result ≡ get_or (Network.product n (times_in first.now) (times_in second.now)) (i * n + j) blank }
 {
-    let mut latest = NONE;
+    let mut latest = None;
     for l in 0..n {
-        let a = first[i * n + l];
-        let b = second[l * n + j];
-        latest = later_sum(latest, a, b);
+        latest = later_sum(latest, first[i * n + l].time(), second[l * n + j].time());
     }
-    latest
+    raw_time(latest)
 }
 
-// The product of the table and of that at place r, put at the next place.
+// Row i of the product of the table and of the one at place r, put at the next place.
+fn product_row(times: &[i32], powers: &mut [i32], n: usize, r: usize, i: usize)
+    requires { Makeable n r times.now powers.old × (i < n) }
+    ensures { RowMade n r i times.now powers.old powers.new }
+{
+    let from = r * (n * n);
+    let goal = from + n * n;
+    let row = goal + i * n;
+    for j in 0..n {
+        powers[row + j] = entry(times, &powers[from..goal], n, i, j);
+    }
+}
+
+// The product of the table and of the one at place r, put at the next place.
 fn product(times: &[i32], powers: &mut [i32], n: usize, r: usize)
     requires { Makeable n r times.now powers.old }
     ensures { Made n r times.now powers.old powers.new }
 {
-    let size = n * n;
-    let from = r * size;
-    let goal = from + size;
-    let mut i = 0;
-    let mut j = 0;
-    for k in 0..size {
-        let e = entry(times, &powers[from..goal], n, i, j);
-        powers[goal + k] = e;
-        j += 1;
-        if j == n {
-            i += 1;
-            j = 0;
-        }
-    }
-}
-
-// The table of size numbers at place 1, put at place 0 too.
-fn to_front(tables: &mut [i32], size: usize)
-    requires { size + size ≤ length tables.old }
-    ensures { times_in (take size tables.new) ≡ times_in (take size (drop size tables.old)) }
-{
-    for k in 0..size {
-        let e = tables[size + k];
-        tables[k] = e;
+    for i in 0..n {
+        product_row(times, powers, n, r, i);
     }
 }
 
@@ -116,7 +81,7 @@ pub fn advance(times: &[i32], tables: &mut [i32], n: usize)
         ≡ Network.product n (times_in times.now) (times_in (take (table_size n) tables.old)) }
 {
     product(times, tables, n, 0);
-    to_front(tables, n * n);
+    tables.copy_within(n * n..2 * (n * n), 0);
 }
 
 // What is added to the first table: the gap of the first place that holds a time in both.
@@ -124,38 +89,34 @@ fn gap(first: &[i32], second: &[i32]) -> Seconds
     requires { length first.now ≡ length second.now }
     ensures { result.0 ≡ Network.gap (times_in first.now) (times_in second.now) }
 {
-    for k in 0..first.len() {
-        let a = first[k];
-        let b = second[k];
-        if both_times(a, b) {
-            return apart(a, b);
+    for (a, b) in first.iter().zip(second) {
+        let Some(a) = a.time() else { continue };
+        if let Some(b) = b.time() {
+            return b - a;
         }
     }
     ZERO
 }
 
 // b is a with c added.
+#[tactic(auto, unfolding(model::specs::Network::after, model::specs::Network::same_time, model::specs::Faults::time_of))]
 fn moved(a: i32, b: i32, c: Seconds) -> bool
     ensures { result ≡ same_time (after (secs c.0) (time_in a)) (time_in b) }
 {
-    if !both_times(a, b) {
-        return !(is_time(a) | is_time(b));
+    match (a.time(), b.time()) {
+        (Some(a), Some(b)) => b - a == c,
+        (None, None) => true,
+        _ => false,
     }
-    let d = apart(a, b);
-    c.at_most(d) & d.at_most(c)
 }
 
-// The second table is the first with c added. The last entries are compared first.
+// The second table is the first with c added. The last entries are compared first, by index: no rule is known to proofs of a zip that runs backwards.
 fn all_moved(first: &[i32], second: &[i32], c: Seconds) -> bool
     requires { length first.now ≡ length second.now }
     ensures { result ≡ same_lists same_time (added c.0 (times_in first.now)) (times_in second.now) }
 {
-    let mut k = first.len();
-    while 0 < k {
-        k -= 1;
-        let a = first[k];
-        let b = second[k];
-        if !moved(a, b, c) {
+    for k in (0..first.len()).rev() {
+        if !moved(first[k], second[k], c) {
             return false;
         }
     }
@@ -175,7 +136,7 @@ pub fn alike(first: &[i32], second: &[i32]) -> bool
 }
 
 // The first of the powers before that at place r which it repeats.
-fn repeats(powers: &[i32], n: usize, r: usize) -> Repeated
+fn repeats(powers: &[i32], n: usize, r: usize) -> Option<Again>
     requires { PlaceIn n r powers.now }
     ensures { repeat_read result ≡ repeats_at n powers.now r }
 {
@@ -186,15 +147,14 @@ fn repeats(powers: &[i32], n: usize, r: usize) -> Repeated
         let from = p * size;
         let earlier = &powers[from..from + size];
         if alike(earlier, last) {
-            let number = gap(earlier, last);
-            return Repeated::At(Again {
+            return Some(Again {
                 q: r + 1,
                 p: p + 1,
-                number,
+                number: gap(earlier, last),
             });
         }
     }
-    Repeated::None
+    None
 }
 
 // The table, put at the front of tables. What lies behind it is free.
@@ -202,51 +162,41 @@ pub fn put_front(tables: &mut [i32], times: &[i32])
     requires { length times.now ≤ length tables.old }
     ensures { times_in (take (length times.now) tables.new) ≡ times_in times.now }
 {
-    for k in 0..times.len() {
-        let e = times[k];
-        tables[k] = e;
-    }
+    tables[..times.len()].copy_from_slice(times);
 }
 
 // The powers are made one after the other, until one repeats an earlier one.
-fn search(times: &[i32], powers: &mut [i32], n: usize) -> Repeated
+fn search(times: &[i32], powers: &mut [i32], n: usize) -> Option<Again>
     requires { Searchable n times.now powers.old }
     ensures { repeat_read result ≡ repeat_in n times.now }
 {
     put_front(powers, times);
     for r in 0..CYCLES - 1 {
         product(times, powers, n, r);
-        if let Repeated::At(again) = repeats(powers, n, r + 1) {
-            return Repeated::At(again);
+        if let Some(again) = repeats(powers, n, r + 1) {
+            return Some(again);
         }
     }
-    Repeated::None
+    None
 }
 
-// With an array for few departures, so that small networks do not pay for large ones, and with one for all.
-fn search_few(times: &[i32], n: usize) -> Repeated
-    requires { TableReady n times.now × (n ≤ few_departures) }
+// The same, with an array for the powers.
+fn search_in<const NUMBERS: usize>(times: &[i32], n: usize) -> Option<Again>
+    requires { TableReady n times.now × (most_cycles * table_size n ≤ NUMBERS) × (NUMBERS < 2 ^ 61) }
     ensures { repeat_read result ≡ repeat_in n times.now }
 {
-    let mut powers = [0i32; CYCLES * FEW * FEW];
+    let mut powers = [0i32; NUMBERS];
     search(times, &mut powers, n)
 }
 
-fn search_many(times: &[i32], n: usize) -> Repeated
-    requires { TableReady n times.now }
-    ensures { repeat_read result ≡ repeat_in n times.now }
-{
-    let mut powers = [0i32; CYCLES * TIMES];
-    search(times, &mut powers, n)
-}
-
-// The first repeated power of a table of n departures.
-pub fn first_repeat(times: &[i32], n: usize) -> Repeated
+// The first repeated power of a table of n departures, if one of the first CYCLES is one. Small networks do not pay for an array as large ones need.
+pub fn first_repeat(times: &[i32], n: usize) -> Option<Again>
     requires { TableReady n times.now }
     ensures { repeat_read result ≡ repeat_in n times.now }
 {
     if n <= FEW {
-        return search_few(times, n);
+        search_in::<FEW_NUMBERS>(times, n)
+    } else {
+        search_in::<MANY_NUMBERS>(times, n)
     }
-    search_many(times, n)
 }

@@ -1,2 +1,3 @@
--- What the proof of `preview` uses.
+-- What the proofs of the functions use.
 pub mod Answered
+pub mod Inside

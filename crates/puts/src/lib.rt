@@ -1,64 +1,94 @@
-// Puts bytes, words and numbers into a buffer of any length, from a place on: each function gives the place after what it put.
+// A text of bytes, put together in a buffer of a fixed size: bytes, words and numbers.
 #![tactic(auto)]
 
-ghost use Rattle.std.specs.Prelude.{◌≡◌, [], ◌∷◌, ◌+◌, ◌≤◌, ◌<◌, length, nat_abs};
+ghost use Rattle.std.specs.Prelude.{◌≡◌, [], ◌∷◌, ◌++◌, ◌+◌, ◌≤◌, ◌<◌, length};
+ghost use Rattle.puts.specs.declared.TheConstants.{SIZE};
 ghost use Rattle.puts.specs.Decimal.{number, signed_number, most_digits, most_signed, SignedRoom};
-ghost use Rattle.puts.specs.Written.{Puts, PutsWithin};
 
-use ints::{Seconds, ZERO};
+use ints::Seconds;
+use std::marker::Model;
 
-pub fn byte(out: &mut [u8], at: usize, byte: u8) -> usize
-    requires { at < length out.old }
-    ensures { Puts out.old at (byte ∷ []) result out.new }
-{
-    out[at] = byte;
-    at + 1
+// Room for the longest text of an answer.
+pub const SIZE: usize = 24576;
+
+// The bytes so far.
+#[derive(Drop)]
+pub struct Text {
+    bytes: [u8; SIZE],
+    size: usize,
 }
 
-pub fn word(out: &mut [u8], at: usize, word: &[u8]) -> usize
-    requires { at + length word.now ≤ length out.old }
-    ensures { Puts out.old at word.now result out.new }
-{
-    let mut next = at;
-    for i in 0..word.len() {
-        next = byte(out, next, word[i]);
-    }
-    next
+impl Model for Text {
+    ghost use Rattle.std.specs.Prelude.{ℕ, List, take, ◌≤◌};
+    ghost use Rattle.puts.specs.declared.TheConstants.{SIZE};
+
+    ghost Value = { List ℕ };
+
+    ghost view = { λ t. take t.size t.bytes };
+
+    ghost invariant = { λ t. t.size ≤ SIZE };
 }
 
-// The decimal digits of a number.
-pub fn number(out: &mut [u8], at: usize, x: u64) -> usize
-    requires { at + length (number x) ≤ length out.old }
-    ensures { PutsWithin most_digits out.old at (number x) result out.new }
-{
-    let digit = b'0' + (x % 10) as u8;
-    if x < 10 {
-        return byte(out, at, digit);
+impl Text {
+    pub fn new() -> Self
+        ensures { result ≡ [] }
+    {
+        Text {
+            bytes: [0; SIZE],
+            size: 0,
+        }
     }
-    let next = number(out, at, x / 10);
-    byte(out, next, digit)
-}
 
-// How far a time is from 0.
-pub fn magnitude(x: Seconds) -> u64
-    ensures { result ≡ nat_abs x.0 }
-{
-    let value = x.0;
-    if value < 0 {
-        return (-(value + 1)) as u64 + 1;
+    pub fn as_bytes(&self) -> &[u8]
+        ensures bytes { result.now ≡ self.now }
+        ensures within { length result.now ≤ SIZE }
+    {
+        &self.bytes[..self.size]
     }
-    value as u64
-}
 
-// A minus sign where the time is below 0, and its digits.
-pub fn seconds(out: &mut [u8], at: usize, x: Seconds) -> usize
-    requires { SignedRoom x.0 at (length out.old) }
-    ensures { PutsWithin most_signed out.old at (signed_number x.0) result out.new }
-{
-    let digits = magnitude(x);
-    if x.less(ZERO) {
-        let next = byte(out, at, b'-');
-        return number(out, next, digits);
+    pub fn push(&mut self, byte: u8)
+        requires { length self.old < SIZE }
+        ensures { self.new ≡ self.old ++ byte ∷ [] }
+    {
+        self.bytes[self.size] = byte;
+        self.size += 1;
     }
-    number(out, at, digits)
+
+    pub fn push_all(&mut self, word: &[u8])
+        requires { length self.old + length word.now ≤ SIZE }
+        ensures { self.new ≡ self.old ++ word.now }
+    {
+        let end = self.size + word.len();
+        let bytes = &mut self.bytes[..];
+        bytes[self.size..end].copy_from_slice(word);
+        self.size = end;
+    }
+
+    // The decimal digits of a number. The library's write! promises what it wrote only where it answers Ok, and does not promise that it does.
+    #[tactic(auto, using(crate::proofs::Digits::one_digit, crate::proofs::Digits::one_longer, crate::proofs::Digits::number_short))]
+    pub fn push_number(&mut self, x: u64)
+        requires { length self.old + length (number x) ≤ SIZE }
+        ensures text { self.new ≡ self.old ++ number x }
+        ensures short { length (number x) ≤ most_digits }
+    {
+        let digit = b'0' + (x % 10) as u8;
+        if x < 10 {
+            return self.push(digit);
+        }
+        self.push_number(x / 10);
+        self.push(digit);
+    }
+
+    // A minus sign where the time is below 0, and its digits.
+    #[tactic(auto, using(crate::proofs::Digits::below_zero, crate::proofs::Digits::signed_short))]
+    pub fn push_seconds(&mut self, x: Seconds)
+        requires { SignedRoom x.0 (length self.old) SIZE }
+        ensures text { self.new ≡ self.old ++ signed_number x.0 }
+        ensures short { length (signed_number x.0) ≤ most_signed }
+    {
+        if x.is_negative() {
+            self.push(b'-');
+        }
+        self.push_number(x.0.unsigned_abs());
+    }
 }

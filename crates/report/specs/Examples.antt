@@ -9,7 +9,7 @@ use Rattle.model.specs.Network as N
 use Rattle.model.specs.Search as X
 use Rattle.model.specs.Faults as F
 use Rattle.model.specs.Packed as K
-use Rattle.model.specs.Answers.{answer, answer_packed, run_in_parts}
+use Rattle.model.specs.Answers.{answer, run_in_parts}
 use Rattle.puts.specs.Decimal as D
 use Rattle.report.specs.Text as T
 use Rattle.report.specs.Text.{text}
@@ -47,6 +47,6 @@ unfolding L.tabulate L.any_of L.all_of mathlib.Core.List.flatten mathlib.Core.Li
     X.preimage X.keep X.previous X.lists X.common X.first_common X.tightest X.above X.below X.greatest_or X.choices X.pick B.scale B.whole X.is_strict
     X.parts_of X.bounds_of X.wholes X.start_in X.plan_with X.plan X.settled X.dry X.search_by X.search_from X.outcome F.time_of F.bound_of
     F.network F.beyond F.over F.bound_fault F.bound_fault_in F.entry_fault F.rows_fault F.outside F.table_fault F.patterns_fault F.case_fault F.room_fault
-    F.call_fault F.run_fault K.bit_at K.num_of K.bits K.signed K.entry K.entries K.rows K.zeros K.fill K.body K.parse_as K.parse answer answer_packed
-    N.scale_time N.in_parts run_in_parts D.digits D.number D.signed_number T.fields T.line T.lines T.of_parts T.heading T.line_count T.answer_text text
+    F.call_fault F.run_fault K.bit_at K.num_of K.bits K.signed K.entry K.entries K.rows K.zeros K.fill K.body K.parse_as K.parse answer
+    N.scale_time N.in_parts run_in_parts D.digits D.number D.signed_number T.fields T.line T.lines T.of_parts T.heading T.lines_after T.answer_text text
 all_right = (refl, (refl, (refl, (refl, (refl, (refl, (refl, tt)))))))

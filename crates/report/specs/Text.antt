@@ -1,17 +1,17 @@
 -- What a planner sees: the text of the answer to a packed case, as bytes of ASCII.
-use Rattle.std.specs.Prelude.{ℕ, suc, cond, ltb, leb, take}
+use Rattle.std.specs.Prelude.{Result, Ok, Err, ℕ, suc, cond, ltb, leb, take}
 use mathlib.Core.List.{List, [], ◌∷◌, ◌++◌, map, flatten}
 use Rattle.puts.specs.Decimal.{number, signed_number}
 use Rattle.ints.specs.declared.Seconds.{Seconds}
 use Rattle.model.specs.Sizes.{few_departures, most_departures, workspace_size}
 use Rattle.model.specs.declared.Case.{Case}
+use Rattle.model.specs.declared.Fault.{Fault}
 use Rattle.model.specs.declared.Verdict.{Verdict}
 use Rattle.model.specs.declared.Verdict.TheVariants as verdict
-use Rattle.model.specs.declared.Answer.{Answer}
 use Rattle.model.specs.Lists.{tabulate}
 use Rattle.model.specs.Faults.{number as faultNumber, returned}
-use Rattle.model.specs.Packed.{parse}
-use Rattle.model.specs.Answers.{answer_packed, unpacked, run_in_parts}
+use Rattle.model.specs.Packed.{got, refused, parse}
+use Rattle.model.specs.Answers.{answer, run_in_parts}
 
 -- times, a blank before each
 abbrev pub field : Seconds → List ℕ
@@ -25,8 +25,12 @@ unfoldable pub line : ℕ → List Seconds → List ℕ
 line j xs = (number j ++ fields xs) ++ 10 ∷ []
 
 -- the lines of the cycles from 0 on, count of them, of the run in parts of a second from these start times
+abbrev pub shown : Case → ℕ → Result (List Seconds) Fault → List ℕ
+shown c j (Ok times) = line j (take c.n times)
+shown c j (Err f) = []
+
 abbrev pub line_of : ℕ → Case → List Seconds → ℕ → List ℕ
-line_of parts c start j = line j (take c.n (run_in_parts parts c start j).times)
+line_of parts c start j = shown c j (run_in_parts parts c start j)
 
 unfoldable pub lines : ℕ → Case → List Seconds → ℕ → List ℕ
 lines parts c start count = flatten (tabulate count 0 (line_of parts c start))
@@ -59,21 +63,24 @@ unfoldable pub of_parts : ℕ → List ℕ
 of_parts parts = cond (ltb 1 parts) (numbered of_word parts) []
 
 -- the first line, without its end
-unfoldable pub heading : Verdict → ℕ → List ℕ
-heading (verdict.Reached k) parts = numbered reached_word k.0 ++ of_parts parts
-heading (verdict.Clear h) parts = numbered clear_word h.0
-heading verdict.Never parts = never_word
-heading (verdict.Refused f) parts = numbered refused_word (faultNumber f) ++ numbered blank_word (returned f)
+unfoldable pub heading : Result Verdict Fault → List ℕ
+heading (Ok (verdict.Reached k s)) = numbered reached_word k.0 ++ of_parts s.parts
+heading (Ok (verdict.Clear h)) = numbered clear_word h.0
+heading (Ok verdict.Never) = never_word
+heading (Err f) = numbered refused_word (faultNumber f) ++ numbered blank_word (returned f)
 
--- how many lines of times follow it
-unfoldable pub line_count : Verdict → ℕ
-line_count (verdict.Reached k) = suc k.0
-line_count (verdict.Clear h) = 0
-line_count verdict.Never = 0
-line_count (verdict.Refused f) = 0
+-- its end, and the lines of times that follow it
+unfoldable pub lines_after : Case → Result Verdict Fault → List ℕ
+lines_after c (Ok (verdict.Reached k s)) = lines s.parts c s.times (suc k.0)
+lines_after c (Ok (verdict.Clear h)) = []
+lines_after c (Ok verdict.Never) = []
+lines_after c (Err f) = []
 
-unfoldable pub answer_text : Case → Answer → List ℕ
-answer_text c r = (heading r.verdict r.parts ++ 10 ∷ []) ++ lines r.parts c r.start (line_count r.verdict)
+abbrev pub first_line : Result Verdict Fault → List ℕ
+first_line r = heading r ++ 10 ∷ []
+
+unfoldable pub answer_text : Case → Result Verdict Fault → List ℕ
+answer_text c r = first_line r ++ lines_after c r
 
 -- the program's Z for n departures, and its workspace, which is long enough for any n
 abbrev pub few_zones : ℕ
@@ -87,4 +94,4 @@ program_space = workspace_size few_zones most_departures
 
 -- what the program prints for these bytes
 unfoldable pub text : List ℕ → List ℕ
-text s = let c = (unpacked (parse s)).case in answer_text c (answer_packed s (program_zones c.n) program_space)
+text s = elim (parse s) [ refused f ↦ first_line (Err f) | got c q ↦ answer_text c (answer c (program_zones c.n) program_space) ]

@@ -1,22 +1,19 @@
-// What a planner sees: the text of the answer to a packed case, put together in a buffer.
+// What a planner sees: the text of the answer to a packed case.
 #![tactic(auto)]
 
 ghost use Rattle.model.specs.Sizes.{most_departures, most_bytes};
-ghost use Rattle.std.specs.Prelude.{◌≡◌, List, ◌++◌, ℕ, ◌+◌, ◌*◌, ◌≤◌, ◌<◌, length, take};
-ghost use Rattle.model.specs.Search.{parts_of};
-ghost use Rattle.model.specs.Faults.{network};
-ghost use Rattle.puts.specs.Written.{PutsWithin};
-ghost use Rattle.report.specs.Text.{fields, line, lines, reached_word, numbered, of_parts, heading, line_count, program_zones, text};
-ghost use Rattle.report.specs.Lengths.{field_size, line_size, word_size, numbered_size, heading_size, most_lines, text_size};
+ghost use Rattle.std.specs.Prelude.{◌≡◌, suc, List, ◌++◌, ℕ, ◌+◌, ◌*◌, ◌≤◌, ◌<◌, length, take};
+ghost use Rattle.model.specs.Answers.{answer};
+ghost use Rattle.report.specs.Text.{fields, line, lines, reached_word, numbered, of_parts, first_line, answer_text};
+ghost use Rattle.report.specs.Text.{program_zones, program_space, text as report_text};
+ghost use Rattle.report.specs.Lengths.{field_size, line_size, word_size, numbered_size, heading_size, text_size, FewLines};
 
 use ints::{Cycle, Seconds};
-use model::{BYTES, Case, DEPARTURES, FEW, NUMBERS, Verdict};
+use model::{Answer, BYTES, Case, FEW, NUMBERS, StartTimes, Verdict};
+use puts::Text;
 
 // The most bytes of an input that are read: one more than the longest case has, so that a byte behind it is seen.
 pub const INPUT: usize = BYTES + 1;
-
-// Room for the longest text: the heading and the end of its line, and a line for each cycle.
-pub const TEXT: usize = 24576;
 
 // The program's Z for more than a few departures, and for few; the numbers of a workspace for either.
 const CAPACITY: usize = 32;
@@ -25,101 +22,87 @@ const CAPACITY_FEW: usize = 128;
 
 const WORKSPACE: usize = 2 * CAPACITY * NUMBERS;
 
-// Each function below puts some bytes into the buffer from a place on, or from its start, and gives the place after them.
-fn put_fields(out: &mut [u8; TEXT], at: usize, times: [Seconds; DEPARTURES], n: usize) -> usize
-    requires { (n ≤ most_departures) × (at + field_size * n ≤ text_size) }
-    ensures { PutsWithin (field_size * n) out.old at (fields (take n times)) result out.new }
+fn push_fields(text: &mut Text, times: &[Seconds])
+    requires { length text.old + field_size * length times.now ≤ text_size }
+    ensures text { text.new ≡ text.old ++ fields times.now }
+    ensures short { length (fields times.now) ≤ field_size * length times.now }
 {
-    let mut next = at;
-    for i in 0..n {
-        let time = times[i];
-        next = puts::byte(out, next, b' ');
-        next = puts::seconds(out, next, time);
+    for time in times {
+        text.push(b' ');
+        text.push_seconds(*time);
     }
-    next
 }
 
-fn put_line(
-    out: &mut [u8; TEXT],
-    at: usize,
-    cycle: usize,
-    times: [Seconds; DEPARTURES],
-    n: usize,
-) -> usize
-    requires { (n ≤ most_departures) × (at + line_size ≤ text_size) }
-    ensures { PutsWithin line_size out.old at (line cycle (take n times)) result out.new }
+#[tactic(auto, using(puts::proofs::Digits::number_short), unfolding(crate::specs::Text::line))]
+fn push_line(text: &mut Text, cycle: usize, times: &[Seconds])
+    requires few { length times.now ≤ most_departures }
+    requires room { length text.old + line_size ≤ text_size }
+    ensures text { text.new ≡ text.old ++ line cycle times.now }
+    ensures short { length (line cycle times.now) ≤ line_size }
 {
-    let mut next = puts::number(out, at, cycle as u64);
-    next = put_fields(out, next, times, n);
-    puts::byte(out, next, b'\n')
+    text.push_number(cycle as u64);
+    push_fields(text, times);
+    text.push(b'\n');
 }
 
-// The lines of the first cycles of a run, in the parts of a second that a start of the case is in.
-fn put_lines(
-    out: &mut [u8; TEXT],
-    at: usize,
-    case: Case,
-    start: [Seconds; DEPARTURES],
-    count: usize,
-) -> usize
-    requires { (case.n ≤ most_departures) × (at + line_size * count ≤ text_size) }
-    ensures { PutsWithin (line_size * count) out.old at (lines (parts_of (network case)) case start count) result out.new }
+// The lines of a verdict that is reached: those of cycle 0 to that cycle.
+fn push_lines(text: &mut Text, case: Case, cycle: Cycle, start: StartTimes)
+    requires few { FewLines case cycle.0 start }
+    requires room { length text.old ≤ suc heading_size }
+    ensures text { text.new ≡ text.old ++ lines start.parts case start.times (suc cycle.0) }
+    ensures within { length text.new ≤ text_size }
 {
     let n = case.n;
-    let mut next = at;
+    let count = cycle.0 + 1;
     for j in 0..count {
-        let run = runs::run_parts(case, start, Cycle(j));
-        let times = run.times;
-        next = put_line(out, next, j, times, n);
-    }
-    next
-}
-
-// A word and the number behind it.
-fn put_numbered(out: &mut [u8; TEXT], at: usize, word: &[u8], x: u64) -> usize
-    requires { (at + numbered_size ≤ text_size) × (length word.now ≤ word_size) }
-    ensures { PutsWithin numbered_size out.old at (numbered word.now x) result out.new }
-{
-    let next = puts::word(out, at, word);
-    puts::number(out, next, x)
-}
-
-// The heading of a cycle that is reached, with the parts of a second where the times are in more than one.
-fn put_reached(out: &mut [u8; TEXT], cycle: Cycle, parts: usize) -> usize
-    ensures { PutsWithin heading_size out.old 0 (numbered reached_word cycle.0 ++ of_parts parts) result out.new }
-{
-    let next = put_numbered(out, 0, b"reached ", cycle.0 as u64);
-    let whole = parts <= 1;
-    if whole {
-        return next;
-    }
-    put_numbered(out, next, b" of ", parts as u64)
-}
-
-fn put_heading(out: &mut [u8; TEXT], verdict: Verdict, parts: usize) -> usize
-    ensures { PutsWithin heading_size out.old 0 (heading verdict parts) result out.new }
-{
-    match verdict {
-        Verdict::Reached(cycle) => put_reached(out, cycle, parts),
-        Verdict::Clear(horizon) => put_numbered(out, 0, b"clear ", horizon.0 as u64),
-        Verdict::Never => puts::word(out, 0, b"never"),
-        Verdict::Refused(fault) => {
-            let next = put_numbered(out, 0, b"refused ", fault.number() as u64);
-            put_numbered(out, next, b" ", fault.returned() as u64)
+        if let Ok(times) = runs::run_parts(case, start.times, Cycle(j)) {
+            push_line(text, j, &times[..n]);
         }
     }
 }
 
-fn line_count(verdict: Verdict) -> usize
-    requires { line_count verdict ≤ most_lines }
-    ensures { result ≡ line_count verdict }
+// A word and the number behind it.
+#[tactic(auto, using(puts::proofs::Digits::number_short))]
+fn push_numbered(text: &mut Text, word: &[u8], x: u64)
+    requires few { length word.now ≤ word_size }
+    requires room { length text.old + numbered_size ≤ text_size }
+    ensures text { text.new ≡ text.old ++ numbered word.now x }
+    ensures short { length (numbered word.now x) ≤ numbered_size }
 {
-    match verdict {
-        Verdict::Reached(cycle) => cycle.0 + 1,
-        Verdict::Clear(_) => 0,
-        Verdict::Never => 0,
-        Verdict::Refused(_) => 0,
+    text.push_all(word);
+    text.push_number(x);
+}
+
+// The heading of a cycle that is reached, with the parts of a second where the times are in more than one.
+#[tactic(auto, unfolding(crate::specs::Text::of_parts))]
+fn push_reached(text: &mut Text, cycle: Cycle, parts: usize)
+    requires room { length text.old + heading_size ≤ text_size }
+    ensures text { text.new ≡ text.old ++ numbered reached_word cycle.0 ++ of_parts parts }
+    ensures short { length (numbered reached_word cycle.0 ++ of_parts parts) ≤ heading_size }
+{
+    push_numbered(text, b"reached ", cycle.0 as u64);
+    if parts > 1 {
+        push_numbered(text, b" of ", parts as u64);
     }
+}
+
+// The first line: what the answer is.
+#[tactic(auto, unfolding(crate::specs::Text::heading))]
+fn push_heading(text: &mut Text, answer: Answer)
+    requires { length text.old + suc heading_size ≤ text_size }
+    ensures text { text.new ≡ text.old ++ first_line answer }
+    ensures short { length (first_line answer) ≤ suc heading_size }
+{
+    match answer {
+        Ok(Verdict::Reached(cycle, start)) => push_reached(text, cycle, start.parts),
+        Ok(Verdict::Clear(horizon)) => push_numbered(text, b"clear ", horizon.0 as u64),
+        Ok(Verdict::Never) => text.push_all(b"never"),
+        Err(fault) => {
+            push_numbered(text, b"refused ", fault.number() as u64);
+            push_numbered(text, b" ", fault.returned() as u64);
+        }
+    }
+    text.push(b'\n');
 }
 
 // The program's Z for n departures.
@@ -129,28 +112,47 @@ fn capacity_for(n: usize) -> usize
     if n <= FEW { CAPACITY_FEW } else { CAPACITY }
 }
 
-// The text of the answer to a packed case. What follows it in the buffer stays as it was.
-pub fn report(bytes: &[u8], out: &mut [u8; TEXT]) -> usize
-    ensures { PutsWithin text_size out.old 0 (text bytes.now) result out.new }
+// The text of the answer to a case.
+#[tactic(auto, unfolding(crate::specs::Text::answer_text, crate::specs::Text::lines_after))]
+fn case_text(case: Case) -> Text
+    ensures text { result ≡ answer_text case (answer case (program_zones case.n) program_space) }
+    ensures within { length result ≤ text_size }
 {
-    let read = packed::read(bytes);
-    let case = read.case;
-    let capacity = capacity_for(case.n);
     let mut work = [0i32; WORKSPACE];
-    let answer = verdict::verdict_packed(bytes, capacity, &mut work);
-    let verdict = answer.verdict;
-    let start = answer.start;
-    let mut next = put_heading(out, verdict, answer.parts);
-    next = puts::byte(out, next, b'\n');
-    let count = line_count(verdict);
-    put_lines(out, next, case, start, count)
+    let answer = verdict::verdict(case, capacity_for(case.n), &mut work);
+    let mut text = Text::new();
+    push_heading(&mut text, answer);
+    match answer {
+        Ok(Verdict::Reached(cycle, start)) => push_lines(&mut text, case, cycle, start),
+        Ok(Verdict::Clear(_)) => {}
+        Ok(Verdict::Never) => {}
+        Err(_) => {}
+    }
+    text
+}
+
+// The text of the answer to a packed case.
+#[tactic(auto, unfolding(crate::specs::Text::text))]
+pub fn report(bytes: &[u8]) -> Text
+    ensures text { result ≡ report_text bytes.now }
+    ensures within { length result ≤ text_size }
+{
+    match packed::read(bytes) {
+        Ok(case) => case_text(case),
+        Err(fault) => {
+            let mut text = Text::new();
+            push_heading(&mut text, Err(fault));
+            text
+        }
+    }
 }
 
 // The text of the answer to an input of any length, of which the first bytes were read: all of them, or as many as there is room for.
-pub fn report_input(bytes: &[u8], size: usize, out: &mut [u8; TEXT]) -> usize
+#[tactic(auto, using(crate::proofs::LongInput::long_input))]
+pub fn report_input(bytes: &[u8], size: usize) -> Text
     requires { (size ≤ length bytes.now) × (most_bytes < length bytes.now) }
-    ensures { (s : List ℕ) → take (length bytes.now) s ≡ take size bytes.now
-        → PutsWithin text_size out.old 0 (text s) result out.new }
+    ensures text { (s : List ℕ) → take (length bytes.now) s ≡ take size bytes.now → result ≡ report_text s }
+    ensures within { length result ≤ text_size }
 {
-    report(&bytes[..size], out)
+    report(&bytes[..size])
 }

@@ -1,9 +1,7 @@
 // A run: the departure times of one cycle, from some start times on, in seconds or in parts of a second.
 #![tactic(auto)]
 
-ghost use Rattle.std.specs.Prelude.{◌≡◌, ◌+◌, ◌≤◌, ◌<◌, ◌^◌, pos, ◌*ℤ◌, nat_abs};
-ghost use Rattle.std.specs.Int.{w64};
-ghost use Rattle.std.proofs.Common.{SFits};
+ghost use Rattle.std.specs.Prelude.{◌≡◌, ◌+◌, ◌≤◌, ◌<◌, length, nat_abs};
 ghost use Rattle.model.specs.Sizes.{time_limit};
 ghost use Rattle.model.specs.Network;
 ghost use Rattle.model.specs.Network.{scale_time, secs_of, clocked, next};
@@ -12,119 +10,98 @@ ghost use Rattle.model.specs.Faults.{time_of, network};
 ghost use Rattle.model.specs.Conditions.{Departures};
 ghost use Rattle.model.specs.Answers;
 ghost use Rattle.model.specs.Answers.{seconds, all_times, run_in_parts};
-ghost use Rattle.runs.specs.Steps.{times_of, table_in, most_parts, StepFits};
+ghost use Rattle.runs.specs.Steps.{values, times_of, table_in, most_parts, StepFits};
 
 use ints::{Cycle, Seconds, ZERO};
-use model::{BOUNDS, Case, DEPARTURES, Judged, NOTHING, Run, Slot};
-
-fn product(value: Seconds, factor: usize) -> Seconds
-    requires { SFits w64 (value.0 *ℤ pos factor) × (factor < 2 ^ 63) }
-    ensures { result.0 ≡ value.0 *ℤ pos factor }
-{
-    Seconds(value.0 * (factor as i64))
-}
+use model::{Case, DEPARTURES, Fault, later_sum};
 
 // A time of the table in parts, of which factor make a second.
-fn in_parts(time: Slot, factor: usize) -> Slot
+#[tactic(auto, unfolding(model::specs::Faults::time_of, model::specs::Network::scale_time, model::specs::Network::secs_of))]
+fn in_parts(time: Option<Seconds>, factor: usize) -> Option<Seconds>
     requires { (nat_abs (secs_of (time_of time)) ≤ time_limit) × (factor ≤ most_parts) }
     ensures { time_of result ≡ scale_time factor (time_of time) }
 {
-    if !time.has {
-        return NOTHING;
-    }
-    let value = product(time.value, factor);
-    Slot { has: true, value }
+    time.map(|seconds| Seconds(seconds.0 * factor as i64))
 }
 
 // The largest sum of a time and an entry of a row.
-fn row_largest(
-    table: [Slot; BOUNDS],
-    x: [Seconds; DEPARTURES],
-    n: usize,
-    row: usize,
-    factor: usize,
-) -> Seconds
-    requires { StepFits n factor table (times_of n x) × (row < n) }
-    ensures { result ≡ seconds (next n (table_in factor n table) (clocked (times_of n x)) (row + 1)) }
+fn row_largest(table: &[Option<Seconds>], times: &[Seconds], row: usize, factor: usize) -> Seconds
+    requires { StepFits (length times.now) factor table.now (values times.now) × (row < length times.now) }
+    ensures { result ≡ seconds (next (length times.now) (table_in factor (length times.now) table.now) (clocked (values times.now)) (row + 1)) }
 {
+    let n = times.len();
     let first = row * n;
-    let mut kept = NOTHING;
-    for column in 0..n {
-        let entry = table[first + column];
-        let summand = in_parts(entry, factor);
-        let time = x[column];
-        let departure = Slot {
-            has: true,
-            value: time,
-        };
-        kept = kept.later_sum(departure, summand);
+    let mut latest = None;
+    for (entry, time) in table[first..first + n].iter().zip(times) {
+        latest = later_sum(latest, Some(*time), in_parts(*entry, factor));
     }
-    kept.value
+    // A row of the table holds a time.
+    latest.unwrap()
 }
 
-// The times of the next cycle.
-fn next_times(
-    table: [Slot; BOUNDS],
-    x: [Seconds; DEPARTURES],
-    n: usize,
-    factor: usize,
-) -> [Seconds; DEPARTURES]
-    requires { StepFits n factor table (times_of n x) }
-    ensures { result ≡ all_times (Network.cycle n (table_in factor n table) (times_of n x)) }
+// The times of the next cycle; those beyond n are 0.
+fn next_times(table: &[Option<Seconds>], times: &[Seconds], factor: usize) -> [Seconds; DEPARTURES]
+    requires { StepFits (length times.now) factor table.now (values times.now) }
+    ensures { result ≡ all_times (Network.cycle (length times.now) (table_in factor (length times.now) table.now) (values times.now)) }
 {
-    let mut times = [ZERO; DEPARTURES];
-    for row in 0..n {
-        let time = row_largest(table, x, n, row, factor);
-        times[row] = time;
+    let mut next = [ZERO; DEPARTURES];
+    for (row, time) in next[..times.len()].iter_mut().enumerate() {
+        *time = row_largest(table, times, row, factor);
     }
-    times
+    next
 }
 
 // The first n times; those beyond are 0.
-fn first_times(x: [Seconds; DEPARTURES], n: usize) -> [Seconds; DEPARTURES]
+fn first_times(start: [Seconds; DEPARTURES], n: usize) -> [Seconds; DEPARTURES]
     requires { Departures n }
-    ensures { result ≡ all_times (times_of n x) }
+    ensures { result ≡ all_times (times_of n start) }
 {
     let mut times = [ZERO; DEPARTURES];
-    for i in 0..n {
-        let time = x[i];
-        times[i] = time;
-    }
+    times[..n].copy_from_slice(&start[..n]);
     times
 }
 
 // The times of a cycle in parts, of which factor make a second.
-fn run_by(case: Case, start: [Seconds; DEPARTURES], cycle: Cycle, factor: usize) -> Run
+#[tactic(auto, using(crate::proofs::Laws::accepted), unfolding(model::specs::Answers::run_in_parts))]
+fn run_by(
+    case: Case,
+    start: [Seconds; DEPARTURES],
+    cycle: Cycle,
+    factor: usize,
+) -> Result<[Seconds; DEPARTURES], Fault>
     requires { factor ≤ most_parts }
     ensures { result ≡ run_in_parts factor case start cycle.0 }
 {
-    let judged = judge::run_fault(case, start, cycle);
-    if let Judged::Refused(_) = judged {
-        let times = [ZERO; DEPARTURES];
-        return Run { judged, times };
-    }
+    judge::run_fault(case, start, cycle)?;
     let n = case.n;
-    let count = cycle.0;
-    let table = case.times;
+    let table = &case.times[..n * n];
     let mut times = first_times(start, n);
-    for _ in 0..count {
-        let next = next_times(table, times, n, factor);
-        times = next;
+    for _ in 0..cycle.0 {
+        times = next_times(table, &times[..n], factor);
     }
-    Run { judged, times }
+    Ok(times)
 }
 
 // The times of a cycle in seconds, or the run's first fault. Start times beyond n are ignored.
-pub fn run(case: Case, start: [Seconds; DEPARTURES], cycle: Cycle) -> Run
+#[tactic(auto, using(model::proofs::Runs::run_whole))]
+pub fn run(
+    case: Case,
+    start: [Seconds; DEPARTURES],
+    cycle: Cycle,
+) -> Result<[Seconds; DEPARTURES], Fault>
     ensures { result ≡ Answers.run case start cycle.0 }
 {
     run_by(case, start, cycle, 1)
 }
 
 // The same in the parts of a second that a start of the case is in: the start times, and those of the cycle.
-pub fn run_parts(case: Case, start: [Seconds; DEPARTURES], cycle: Cycle) -> Run
+#[tactic(auto, using(judge::proofs::Laws::parts_few, crate::proofs::Laws::run_start))]
+pub fn run_parts(
+    case: Case,
+    start: [Seconds; DEPARTURES],
+    cycle: Cycle,
+) -> Result<[Seconds; DEPARTURES], Fault>
     ensures { result ≡ run_in_parts (parts_of (network case)) case start cycle.0 }
 {
-    let factor = judge::parts(case);
-    run_by(case, start, cycle, factor)
+    run_by(case, start, cycle, judge::parts(case))
 }

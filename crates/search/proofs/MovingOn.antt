@@ -31,6 +31,13 @@ unfolding search_by
 search_stays step ends zs same wet free zero k e = rw wet
 search_stays step ends zs same wet free (suc r) k e = rw (wet, same, free k, same) (search_stays step ends zs same wet free r (suc k) e)
 
+-- list k is at base, of lists up to last
+pub record Going (n parts base count : ℕ) (c : ℤ) (before start : List ℤ) (first last : ℕ) (work : List ℤ) (k : ℕ) : Type 0 where
+  pub long : length work ≡ length before
+  pub each : (j : ℕ) → j ≤ last - k → Lookable n parts start (moved_on n c j (list_in (zone_size n) count (drop base work)))
+  pub rest : (e : Outcome) → moved_search n parts c (bounds_in start) (last - first) (suc first) (list_in (zone_size n) count (drop base before)) e
+      ≡ moved_search n parts c (bounds_in start) (last - k) (suc k) (list_in (zone_size n) count (drop base work)) e
+
 module _ {n parts base count cycles : ℕ} {c : ℤ} {before start : List ℤ} (q : MovingOn n parts base count cycles c before start) where
   abbrev list : List ℤ → List Matrix
   list work = list_in (zone_size n) count (drop base work)
@@ -49,21 +56,18 @@ module _ {n parts base count cycles : ℕ} {c : ℤ} {before start : List ℤ} (
       search_stays (map (moved n c)) (met_by_cycle n parts (bounds_in start)) (list before) (rw none-later (still_same n zones)) (wet before)
       (λ j. rw q.apart) r k e
 
-  -- list k is at base, of lists up to last
-  pub record Going (first last : ℕ) (work : List ℤ) (k : ℕ) : Type 0 where
-    pub long : length work ≡ length before
-    pub each : (j : ℕ) → j ≤ last - k → Lookable n parts start (moved_on n c j (list work))
-    pub rest : (e : Outcome) → searched (last - first) (suc first) (list before) e ≡ searched (last - k) (suc k) (list work) e
+  abbrev At : ℕ → ℕ → List ℤ → ℕ → Type 0
+  At first last work k = Going n parts base count c before start first last work k
 
-  pub going_start : (first last : ℕ) → cycles ≡ last - first → Going first last before first
+  pub going_start : (first last : ℕ) → cycles ≡ last - first → At first last before first
   going_start first last e = record { long = refl; each = λ j h. q.each j (omega arith); rest = λ o. refl }
 
-  pub going_done : {first last : ℕ} {work : List ℤ} (k : ℕ) → Going first last work k → last ≤ k → (e : Outcome)
+  pub going_done : {first last : ℕ} {work : List ℤ} (k : ℕ) → At first last work k → last ≤ k → (e : Outcome)
       → searched (last - first) (suc first) (list before) e ≡ e
   unfolding moved_search search_by
   going_done {last} {work} k g h e = let z : last - k ≡ 0 = omega arith in g.rest e ∙ rw (z, wet work)
 
-  module _ {first last : ℕ} {work : List ℤ} {k : ℕ} (g : Going first last work k) (more : k < last) where
+  module _ {first last : ℕ} {work : List ℤ} {k : ℕ} (g : At first last work k) (more : k < last) where
     abbrev next : List Matrix
     next = map (moved n c) (list work)
 
@@ -99,7 +103,7 @@ module _ {n parts base count cycles : ℕ} {c : ℤ} {before start : List ℤ} (
       unfolding met_by_cycle
       going_met {z} found e = onward (some (reached (suc k) parts (start_in n parts z))) (rw (rw m.list at found)) e
 
-      pub going_on : first_common n (bounds_in start) (list after) ≡ none → Going first last after (suc k)
+      pub going_on : first_common n (bounds_in start) (list after) ≡ none → At first last after (suc k)
       unfolding met_by_cycle moved_on
       going_on found = record {
         long = same ∙ g.long;

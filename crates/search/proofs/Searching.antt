@@ -4,20 +4,18 @@ use native.Mathlib.Omega.{arith}
 use native.Mathlib.Nat.{mul-le-mul_right}
 use mathlib.Core.Path.{◌≡◌, refl, sym, ap, ap₂, ◌∙◌}
 use mathlib.Core.Logic.{◌⊎◌, inl, inr, ⊎_elim}
-use mathlib.Core.Bool.{true, false, cond}
+use mathlib.Core.Bool.{false, cond}
 use mathlib.Core.List.{List, [], ◌∷◌, map}
 use mathlib.Core.Option.{Option, none, some}
 use lib.IntN.{ℤ, nat_abs}
 use lib.ListN.{length, drop, length-map}
 use borrow.Author.Tests.{lt-ltb, le-ltb}
-use Rattle.ints.proofs.Integers.{impossible}
 use Rattle.model.specs.Sizes.{most_cycles, zone_size, workspace_size}
 use Rattle.model.specs.Lists.{tabulate}
 use Rattle.model.specs.Matrix.{Matrix, everything}
 use Rattle.model.specs.Network.{Network}
 use Rattle.model.specs.Search.{Outcome, reached, never, table_full, parts_of, start_in, lists, previous}
 use Rattle.model.specs.Search.{first_common, settled, dry, search_by, search_from}
-use Rattle.model.specs.Answers.{answered}
 use Rattle.model.proofs.Listed.{every_both}
 use Rattle.model.proofs.Entries.{length_tabulate}
 use Rattle.model.proofs.ZoneLists.{lists_closed}
@@ -26,13 +24,14 @@ use Rattle.model.proofs.Searched.{parts_few, first_common_lem, parts_enough}
 use Rattle.memory.specs.Networks.{network_in}
 use Rattle.memory.specs.Numbers.{bounds_in, times_in, InMemory}
 use Rattle.memory.proofs.Room.{buildable, meetable}
-use Rattle.lists.specs.Lists.{size_seen, list_in, Meets, Startable}
+use Rattle.lists.specs.Lists.{size_seen, list_in, ListHeld, Building, Meets, Startable}
+use Rattle.lists.proofs.Held.{held_full, held_open, held_list}
 use Rattle.lists.proofs.Patterned.{pattern_meets}
 use Rattle.moves.specs.Moving.{moved, TwoLists}
 use Rattle.moves.proofs.Previous.{previous_moved}
 use Rattle.search.proofs.MovingOn.{not_dry}
-use Rattle.search.specs.declared.Step.{Step}
-use Rattle.search.specs.Searching.{Searchable, Lookable, met_by_cycle, moved_search, moved_on, MovingOn, Stepping, Stepped, full, met, on}
+use Rattle.std.specs.Prelude as std
+use Rattle.search.specs.Searching.{Searchable, Lookable, met_by_cycle, moved_search, moved_on, MovingOn}
 
 -- how list k ends the search
 module _ (w : Network) (capacity k : ℕ) (zs : List Matrix) where
@@ -93,6 +92,16 @@ length_list : (size count : ℕ) (work : List ℤ) → length (list_in size coun
 unfolding list_in
 length_list size count work = length_tabulate count 0 _
 
+-- list k stands at source
+pub record Reached (n capacity cycles size : ℕ) (times start target work : List ℤ) (count source k : ℕ) : Type 0 where
+  pub upto : k ≤ cycles
+  pub inside : count ≤ capacity
+  pub long : length work ≡ size
+  pub at : (source ≡ 0) ⊎ (source ≡ capacity * zone_size n)
+  pub list : list_in (zone_size n) count (drop source work) ≡ lists (network_in n cycles times start target) k
+  pub rest : (e : Outcome) → let w = network_in n cycles times start target in
+      search_from w capacity cycles 1 (lists w 0) e ≡ search_from w capacity (cycles - k) (suc k) (lists w k) e
+
 module _ {n parts capacity cycles size : ℕ} {times start target : List ℤ} (q : Searchable n parts capacity cycles size times start target) where
   abbrev w : Network
   w = network_in n cycles times start target
@@ -121,14 +130,8 @@ module _ {n parts capacity cycles size : ℕ} {times start target : List ℤ} (q
         startable = starts_in k;
       }
 
-  -- list k stands at source
-  pub record Reached (work : List ℤ) (count source k : ℕ) : Type 0 where
-    pub upto : k ≤ cycles
-    pub inside : count ≤ capacity
-    pub long : length work ≡ size
-    pub at : (source ≡ 0) ⊎ (source ≡ capacity * zone_size n)
-    pub list : list_in (zone_size n) count (drop source work) ≡ lists w k
-    pub rest : (e : Outcome) → search_from w capacity cycles 1 (lists w 0) e ≡ search_from w capacity (cycles - k) (suc k) (lists w k) e
+  abbrev At : List ℤ → ℕ → ℕ → ℕ → Type 0
+  At work count source k = Reached n capacity cycles size times start target work count source k
 
   -- list 0
   pub target_meets : Meets n target (everything (suc n) ∷ [])
@@ -137,7 +140,7 @@ module _ {n parts capacity cycles size : ℕ} {times start target : List ℤ} (q
   pub zone_room : zone_size n ≤ size
   zone_room = omega (arith, q.long, mul-le-mul_right (zone_size n) q.some_zones)
 
-  pub begun : {work : List ℤ} {count : ℕ} → length work ≡ size → list_in (zone_size n) count work ≡ lists w 0 → count ≤ 1 → Reached work count 0 0
+  pub begun : {work : List ℤ} {count : ℕ} → length work ≡ size → list_in (zone_size n) count work ≡ lists w 0 → count ≤ 1 → At work count 0 0
   begun l e h = record {
     upto = omega arith;
     inside = omega (arith, q.some_zones);
@@ -147,52 +150,59 @@ module _ {n parts capacity cycles size : ℕ} {times start target : List ℤ} (q
     rest = λ o. let z : cycles - 0 ≡ cycles = omega arith in rw z;
   }
 
-  pub source_in : {work : List ℤ} {count source k : ℕ} → Reached work count source k → source ≤ capacity * zone_size n
+  pub source_in : {work : List ℤ} {count source k : ℕ} → At work count source k → source ≤ capacity * zone_size n
   source_in r = ⊎_elim (λ e. omega arith) (λ e. omega arith) r.at
 
   -- no zone is left
-  pub dried : {work : List ℤ} {count source k : ℕ} → Reached work count source k → count ≡ 0 → (e : Outcome)
+  pub dried : {work : List ℤ} {count source k : ℕ} → At work count source k → count ≡ 0 → (e : Outcome)
       → search_from w capacity cycles 1 (lists w 0) e ≡ never
   unfolding list_in tabulate
   dried {k} r h e = let none : lists w k ≡ [] = sym r.list ∙ rw h in r.rest e ∙ rw none (from_dry w capacity (cycles - k) (suc k) e)
 
-  wet : {work : List ℤ} {count source k : ℕ} → Reached work count source k → 1 ≤ count → dry (lists w k) ≡ false
+  wet : {work : List ℤ} {count source k : ℕ} → At work count source k → 1 ≤ count → dry (lists w k) ≡ false
   wet {work} {count} {source} r h = rw (← r.list) (not_dry (zone_size n) count (drop source work) h)
 
   -- past the last cycle
-  pub past : {work : List ℤ} {count source : ℕ} (k : ℕ) → Reached work count source k → 1 ≤ count → cycles ≤ k → (e : Outcome)
+  pub past : {work : List ℤ} {count source : ℕ} (k : ℕ) → At work count source k → 1 ≤ count → cycles ≤ k → (e : Outcome)
       → search_from w capacity cycles 1 (lists w 0) e ≡ e
   unfolding search_from search_by
   past k r zone h e = let z : cycles - k ≡ 0 = omega arith in r.rest e ∙ rw (z, wet r zone)
 
-  module _ {work : List ℤ} {count source k : ℕ} (r : Reached work count source k) (some_zone : 1 ≤ count) (more : k < cycles) where
+  module _ {work : List ℤ} {count source k : ℕ} (r : At work count source k) (some_zone : 1 ≤ count) (more : k < cycles) where
     abbrev goal : ℕ
     goal = capacity * zone_size n - source
 
     few_cycles : suc k ≤ most_cycles
     few_cycles = omega (arith, q.limits.few_cycles, q.within)
 
-    pub stepping : {seen : List ℤ} → size_seen n ≤ length seen → Stepping n parts capacity source goal count work times start seen
-    unfolding lists
-    stepping s =
+    pub building : {seen : List ℤ} → size_seen n ≤ length seen → Building n capacity source goal count work times seen
+    building s =
         let l = q.limits in
         let t = l.table in
         let few = t.departures.few in
         let to-here : k ≤ most_cycles = omega (arith, few_cycles) in
         record {
-          building = record {
-            halves = record { long = omega (arith, q.long, r.long); apart = ⊎_elim (λ e. inl (e, omega arith)) (λ e. inr (e, omega arith)) r.at };
-            inside = r.inside;
-            sources = record {
-              table = q.table;
-              regular = t.regular;
-              closed = rw r.list (lists_closed w k);
-              each = rw r.list (buildable w few t.times_small l.target_small k to-here);
-            };
-            seen_size = s;
+          halves = record { long = omega (arith, q.long, r.long); apart = ⊎_elim (λ e. inl (e, omega arith)) (λ e. inr (e, omega arith)) r.at };
+          inside = r.inside;
+          sources = record {
+            table = q.table;
+            regular = t.regular;
+            closed = rw r.list (lists_closed w k);
+            each = rw r.list (buildable w few t.times_small l.target_small k to-here);
           };
-          looking = rw r.list (lookable (suc k) few_cycles);
+          seen_size = s;
         }
+
+    -- the list made from it
+    abbrev made : List Matrix
+    made = previous n (times_in times) (list_in (zone_size n) count (drop source work))
+
+    made_is : made ≡ lists w (suc k)
+    unfolding lists
+    made_is = ap (previous n (times_in times)) r.list
+
+    pub looking : Lookable n parts start made
+    looking = rw made_is (lookable (suc k) few_cycles)
 
     -- the search from cycle k + 1 on, by what its list says
     abbrev onwards : Outcome → Option Outcome → Outcome
@@ -205,18 +215,15 @@ module _ {n parts capacity cycles size : ℕ} {times start target : List ℤ} (q
         let d : cycles - k ≡ suc (cycles - suc k) = omega arith in
         r.rest e ∙ rw (d, wet r some_zone) (ap (onwards e) s)
 
-    abbrev Is-next : List ℤ → Step → Type 0
-    Is-next after s = Stepped n (parts_of w) capacity (suc k) source goal count (bounds_in start) (times_in times) (lists w k) after s
-
     -- the search goes on with list k + 1 at goal; list k is still at source
-    pub record Onward (after : List ℤ) (s : Step) : Type 0 where
-      pub reached : Reached after s.count goal (suc k)
+    pub record Onward (after : List ℤ) (next : ℕ) : Type 0 where
+      pub reached : At after next goal (suc k)
       pub room : length (lists w (suc k)) ≤ capacity
       pub apart : first_common n (bounds_in start) (lists w (suc k)) ≡ none
       pub old : list_in (zone_size n) count (drop source after) ≡ lists w k
 
-    module _ {after : List ℤ} {s : Step} (o : Onward after s) where
-      pub both_lists : TwoLists n source count goal s.count after
+    module _ {after : List ℤ} {next : ℕ} (o : Onward after next) where
+      pub both_lists : TwoLists n source count goal next after
       both_lists =
           let old-room = mul-le-mul_right (zone_size n) r.inside in
           let new-room = mul-le-mul_right (zone_size n) o.reached.inside in
@@ -229,16 +236,16 @@ module _ {n parts capacity cycles size : ℕ} {times start target : List ℤ} (q
 
       -- where it is list k with the clock moved
       module _ (c : ℤ)
-          (is : list_in (zone_size n) s.count (drop goal after) ≡ map (moved n c) (list_in (zone_size n) count (drop source after))) where
+          (is : list_in (zone_size n) next (drop goal after) ≡ map (moved n c) (list_in (zone_size n) count (drop source after))) where
         list_moved : lists w (suc k) ≡ map (moved n c) (lists w k)
         list_moved = sym o.reached.list ∙ is ∙ ap (map (moved n c)) o.old
 
-        same_count : s.count ≡ count
+        same_count : next ≡ count
         same_count =
-            sym (length_list (zone_size n) s.count (drop goal after)) ∙ ap length is ∙ length-map (list_in (zone_size n) count (drop source after)) (moved n c)
+            sym (length_list (zone_size n) next (drop goal after)) ∙ ap length is ∙ length-map (list_in (zone_size n) count (drop source after)) (moved n c)
             ∙ length_list (zone_size n) count (drop source after)
 
-        pub moving_on : nat_abs c ≤ InMemory → MovingOn n parts goal s.count (cycles - suc k) c after start
+        pub moving_on : nat_abs c ≤ InMemory → MovingOn n parts goal next (cycles - suc k) c after start
         moving_on small = record {
           small = small;
           some_zone = rw same_count some_zone;
@@ -249,46 +256,49 @@ module _ {n parts capacity cycles size : ℕ} {times start target : List ℤ} (q
         }
 
         pub moved_answer : (e : Outcome) → search_from w capacity cycles 1 (lists w 0) e
-            ≡ moved_search n parts c (bounds_in start) (cycles - suc k) (suc (suc k)) (list_in (zone_size n) s.count (drop goal after)) e
+            ≡ moved_search n parts c (bounds_in start) (cycles - suc k) (suc (suc k)) (list_in (zone_size n) next (drop goal after)) e
         unfolding lists
         moved_answer e =
             o.reached.rest e
             ∙ rw (o.reached.list, parts_are)
             (moved_search_lem w c capacity (cycles - suc k) (suc (suc k)) (lists w (suc k)) (next_moved w c k list_moved) o.room e)
 
-    module _ {after : List ℤ} {s : Step}
-        (h : Stepped n parts capacity (suc k) source goal count (bounds_in start) (times_in times)
-        (list_in (zone_size n) count (drop source work)) after s) where
-      -- it is made from list k, in the parts of the network
-      is_next : Is-next after s
-      is_next = rw (← r.list, ← parts_are) h
+    module _ (after : List ℤ) where
+      abbrev Held : std.Option ℕ → Type 0
+      Held o = ListHeld (zone_size n) capacity made o (drop goal work) (drop goal after)
 
-      pub ended : (e : Outcome) → s.ended ≡ true → s.answer ≡ answered (search_from w capacity cycles 1 (lists w 0) e)
-      unfolding lists
-      ended e t = go is_next t
-        where
-          go : {s : Step} → Is-next after s → s.ended ≡ true → s.answer ≡ answered (search_from w capacity cycles 1 (lists w 0) e)
-          go (full p) t = ap answered (sym (from_here _ (settled_full w capacity (suc k) (lists w (suc k)) p) e))
-          go (met p c) t = ap answered (sym (from_here _ (settled_met w capacity (suc k) (lists w (suc k)) p c) e))
-          go (on p c l) t = impossible cc
+      -- it has no room
+      pub ended_full : Held std.None → (e : Outcome) → search_from w capacity cycles 1 (lists w 0) e ≡ table_full (suc k)
+      ended_full h e = from_here _ (settled_full w capacity (suc k) (lists w (suc k)) (rw made_is at (held_full h))) e
 
-      pub onward : s.ended ≡ false → length after ≡ length work → Onward after s
-      unfolding lists
-      onward t same = go is_next t
-        where
-          go : {s : Step} → Is-next after s → s.ended ≡ false → Onward after s
-          go (full p) t = impossible cc
-          go (met p c) t = impossible cc
-          go (on p c l) t = record {
-            reached = record {
-              upto = omega arith;
-              inside = p;
-              long = same ∙ r.long;
-              at = ⊎_elim (λ e. inr (omega arith)) (λ e. inl (omega arith)) r.at;
-              list = l.new;
-              rest = from_here none (settled_on w capacity (suc k) (lists w (suc k)) p c);
-            };
-            room = p;
-            apart = c;
-            old = l.old;
-          }
+      module _ {next : ℕ} (h : Held (std.Some next)) where
+        new : list_in (zone_size n) next (drop goal after) ≡ lists w (suc k)
+        new = (held_list h).1 ∙ made_is
+
+        room : length (lists w (suc k)) ≤ capacity
+        room = rw made_is at (held_open h)
+
+        few : next ≤ capacity
+        few = omega (arith, (held_list h).0, held_open h)
+
+        -- it meets the start
+        pub ended_met : {c : Matrix} → first_common n (bounds_in start) (list_in (zone_size n) next (drop goal after)) ≡ some c → (e : Outcome)
+            → search_from w capacity cycles 1 (lists w 0) e ≡ reached (suc k) parts (start_in n parts c)
+        ended_met found e = rw parts_are (from_here _ (settled_met w capacity (suc k) (lists w (suc k)) room (rw new at found)) e)
+
+        -- it does not
+        pub onward : first_common n (bounds_in start) (list_in (zone_size n) next (drop goal after)) ≡ none → length after ≡ length work
+            → list_in (zone_size n) count (drop source after) ≡ list_in (zone_size n) count (drop source work) → Onward after next
+        onward apart same old = record {
+          reached = record {
+            upto = omega arith;
+            inside = few;
+            long = same ∙ r.long;
+            at = ⊎_elim (λ e. inr (omega arith)) (λ e. inl (omega arith)) r.at;
+            list = new;
+            rest = from_here none (settled_on w capacity (suc k) (lists w (suc k)) room (rw new at apart));
+          };
+          room = room;
+          apart = rw new at apart;
+          old = old ∙ r.list;
+        }

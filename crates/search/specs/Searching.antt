@@ -1,23 +1,23 @@
 -- The search over the lists of zones in the workspace.
-use Rattle.std.specs.Prelude.{ℕ, zero, suc, ◌+◌, ◌*◌, ◌≤◌, ◌<◌, ◌≡◌, true, false, List, map, ℤ, nat_abs, length, drop}
+use Rattle.std.specs.Prelude.{Result, ℕ, zero, suc, ◌+◌, ◌*◌, ◌≤◌, ◌≡◌, List, map, ℤ, nat_abs, length, drop}
 use Rattle.std.proofs.Math.Option
-use Rattle.std.proofs.Math.Option.{Option, none, some}
-use Rattle.model.specs.declared.Answer.{Answer}
+use Rattle.std.proofs.Math.Option.{Option, none}
+use Rattle.model.specs.declared.Fault.{Fault}
+use Rattle.model.specs.declared.Verdict.{Verdict}
 use Rattle.model.specs.Sizes.{zone_size, workspace_size}
 use Rattle.model.specs.Bound.{Bound}
 use Rattle.model.specs.Matrix.{Matrix}
-use Rattle.model.specs.Network.{Time, Network}
-use Rattle.model.specs.Search.{Outcome, previous, first_common, parts_of, start_in, reached, clear, never, table_full, lists, search_by, search_from}
+use Rattle.model.specs.Network.{Network}
+use Rattle.model.specs.Search.{Outcome, clear, never, first_common, parts_of, start_in, reached, lists, search_by, search_from}
 use Rattle.model.specs.Answers.{answered}
 use Rattle.model.specs.Conditions.{Limits}
-use Rattle.memory.specs.Numbers.{bounds_in, times_in, InMemory}
+use Rattle.memory.specs.Numbers.{bounds_in, InMemory}
 use Rattle.memory.specs.Networks.{network_in}
 use Rattle.memory.specs.Conditions.{TableIn, PatternIn}
-use Rattle.lists.specs.Lists.{list_in, Building, Meets, Startable}
+use Rattle.lists.specs.Lists.{list_in, Meets, Startable}
 use Rattle.moves.specs.Moving.{moved}
 use Rattle.search.specs.declared.End.{End}
 use Rattle.search.specs.declared.End.TheVariants as end
-use Rattle.search.specs.declared.Step.{Step}
 
 -- a network in memory within the limits, the parts of its starts, cycles within its horizon, and room for the lists
 pub record Searchable (n parts capacity cycles size : ℕ) (times start target : List ℤ) : Type 0 where
@@ -35,27 +35,6 @@ pub record Searchable (n parts capacity cycles size : ℕ) (times start target :
 pub record Lookable (n parts : ℕ) (start : List ℤ) (zs : List Matrix) : Type 0 where
   pub meets : Meets n start zs
   pub startable : Startable n parts start zs
-
--- the list at source can be made from, and what is made can be looked through
-pub record Stepping (n parts capacity source goal count : ℕ) (work times start seen : List ℤ) : Type 0 where
-  pub building : Building n capacity source goal count work times seen
-  pub looking : Lookable n parts start (previous n (times_in times) (list_in (zone_size n) count (drop source work)))
-
--- the list zs at source and the list zs' at goal
-pub record Standing (n source goal count : ℕ) (zs zs' : List Matrix) (work : List ℤ) : Type 0 where
-  pub old : list_in (zone_size n) count (drop source work) ≡ zs
-  pub new : list_in (zone_size n) (length zs') (drop goal work) ≡ zs'
-
--- what list k, made from zs, says: the search ends with an answer, or goes on with it at goal
-pub data Stepped (n parts capacity k source goal count : ℕ) (start : List Bound) (a : List Time) (zs : List Matrix) (after : List ℤ) : Step → Type 0 where
-  full : capacity < length (previous n a zs)
-      → Stepped n parts capacity k source goal count start a zs after (record { ended = true; count = 0; answer = answered (table_full k) })
-  met : {c : Matrix} → length (previous n a zs) ≤ capacity → first_common n start (previous n a zs) ≡ some c
-      → Stepped n parts capacity k source goal count start a zs after
-      (record { ended = true; count = 0; answer = answered (reached k parts (start_in n parts c)) })
-  on : length (previous n a zs) ≤ capacity → first_common n start (previous n a zs) ≡ none → Standing n source goal count zs (previous n a zs) after
-      → Stepped n parts capacity k source goal count start a zs after
-      (record { ended = false; count = length (previous n a zs); answer = answered (clear k) })
 
 -- ---- lists that are made by moving the clock
 -- how list k ends the search, if it does, where there is room for it
@@ -86,5 +65,5 @@ past_by (end.Clear horizon) = clear horizon.0
 past_by end.Never = never
 
 -- the answer of a search over so many cycles. Free: what the workspace holds afterwards; its length is unchanged
-abbrev pub Searched : Network → ℕ → ℕ → End → Answer → Type 0
+abbrev pub Searched : Network → ℕ → ℕ → End → Result Verdict Fault → Type 0
 Searched w capacity cycles end r = r ≡ answered (search_from w capacity cycles 1 (lists w 0) (past_by end))

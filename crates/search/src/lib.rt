@@ -2,245 +2,140 @@
 // before it with the clock moved, so is each later one, and no more lists are made.
 #![tactic(auto)]
 
-ghost use Rattle.std.specs.Prelude.{◌≡◌, [], true, suc, ◌-◌, ◌≤◌, length, drop};
+ghost use Rattle.std.specs.Prelude.{◌≡◌, suc, ◌-◌, ◌≤◌, ◌<◌, ◌^◌, length, drop};
 ghost use Rattle.model.specs.Sizes.{zone_size};
-ghost use Rattle.model.specs.Answers.{answered, all_times};
 ghost use Rattle.memory.specs.Numbers.{bounds_in, times_in};
 ghost use Rattle.lists.specs.Lists.{size_seen, list_in};
 ghost use Rattle.memory.specs.Networks.{network_in};
-ghost use Rattle.search.specs.Searching.{Searchable, Stepping, Stepped, MovingOn, moved_search, past_by, Searched};
+ghost use Rattle.model.specs.Answers.{answered};
+ghost use Rattle.search.specs.Searching.{Searchable, MovingOn, moved_search, past_by, Searched};
 
 use ints::{Cycle, Seconds, ZERO};
-use lists::Found;
-use model::{Answer, DEPARTURES, Fault, Verdict};
+use model::{Answer, Fault, StartTimes, Verdict};
 
-// What getting past the last cycle means.
-#[derive(Clone, Copy)]
+// What getting past the last cycle means. An Option<Cycle> would not be plainer: its None does not say never.
+#[derive(Clone, Copy, Debug, PartialEq, Eq)]
 pub enum End {
     Clear(Cycle),
     Never,
 }
 
-// What a list says: the search ends with this answer, or goes on with a list of count zones.
+impl End {
+    fn answer(self) -> Answer
+        ensures { result ≡ answered (past_by self) }
+    {
+        match self {
+            End::Clear(horizon) => Ok(Verdict::Clear(horizon)),
+            End::Never => Ok(Verdict::Never),
+        }
+    }
+}
+
+// A search: Z, n, in what parts of a second a start is handed back, how many cycles are searched, what getting past them means, and the network's numbers in
+// memory.
 #[derive(Clone, Copy)]
-struct Step {
-    ended: bool,
-    count: usize,
-    answer: Answer,
-}
-
-// An answer without a start.
-pub fn plain(verdict: Verdict) -> Answer
-    ensures { result ≡ record { verdict = verdict; parts = 0; start = all_times [] } }
-{
-    Answer {
-        verdict,
-        parts: 0,
-        start: [ZERO; DEPARTURES],
-    }
-}
-
-// The answer of a search that gets past the last cycle.
-fn past(end: End) -> Answer
-    ensures { result ≡ answered (past_by end) }
-{
-    match end {
-        End::Clear(horizon) => plain(Verdict::Clear(horizon)),
-        End::Never => plain(Verdict::Never),
-    }
-}
-
-// The answer where list k meets the start.
-fn reached(found: Found, parts: usize, k: Cycle) -> Answer
-    ensures { result ≡ record { verdict = Verdict.Reached k; parts = parts; start = found.start } }
-{
-    let start = found.start;
-    Answer {
-        verdict: Verdict::Reached(k),
-        parts,
-        start,
-    }
-}
-
-// The search ends with this answer.
-fn settled(answer: Answer) -> Step
-    ensures { result ≡ record { ended = true; count = 0; answer = answer } }
-{
-    Step {
-        ended: true,
-        count: 0,
-        answer,
-    }
-}
-
-// One cycle: makes list k at goal from the list at source, which stays, and looks through it.
-fn one_cycle(
-    work: &mut [i32],
-    source: usize,
-    goal: usize,
-    count: usize,
-    capacity: usize,
-    times: &[i32],
-    start: &[i32],
-    seen: &mut [i32],
-    n: usize,
-    parts: usize,
-    k: Cycle,
-) -> Step
-    requires { Stepping n parts capacity source goal count work.old times.now start.now seen.old }
-    ensures { Stepped n parts capacity k.0 source goal count (bounds_in start.now) (times_in times.now)
-        (list_in (zone_size n) count (drop source work.old)) work.new result }
-{
-    let built = lists::next_list(work, source, goal, count, capacity, times, seen, n);
-    if built.full {
-        let answer = plain(Verdict::Refused(Fault::TableFull(k)));
-        return settled(answer);
-    }
-    let found = lists::first_common(work, goal, built.count, start, n, parts);
-    if found.some {
-        let answer = reached(found, parts, k);
-        return settled(answer);
-    }
-    let answer = plain(Verdict::Clear(k));
-    Step {
-        ended: false,
-        count: built.count,
-        answer,
-    }
-}
-
-// A search: Z, n, what a start is in, how many cycles are searched, what getting past them means.
-#[derive(Clone, Copy)]
-struct Task {
-    capacity: usize,
-    n: usize,
-    parts: usize,
-    cycles: Cycle,
-    end: End,
+pub struct Task<'a> {
+    pub capacity: usize,
+    pub n: usize,
+    pub parts: usize,
+    pub cycles: Cycle,
+    pub end: End,
+    pub times: &'a [i32],
+    pub start: &'a [i32],
+    pub target: &'a [i32],
 }
 
 // The rest of a search where each list is the one before it with the clock moved, and list k is at base. Where the clock does not move, they are all the
 // same, and none meets the start.
-fn move_on(
-    work: &mut [i32],
-    base: usize,
-    count: usize,
-    start: &[i32],
-    task: Task,
-    k: Cycle,
-    by: Seconds,
-) -> Answer
-    requires { MovingOn task.n task.parts base count (task.cycles.0 - k.0) by.0 work.old start.now }
-    ensures { result ≡ answered
-        (moved_search task.n task.parts by.0 (bounds_in start.now) (task.cycles.0 - k.0) (suc k.0)
-        (list_in (zone_size task.n) count (drop base work.old)) (past_by task.end)) }
+fn move_on(work: &mut [i32], base: usize, count: usize, task: Task, k: Cycle, by: Seconds) -> Answer
+    requires { MovingOn task.n task.parts base count (task.cycles.0 - k.0) by.0 work.old task.start.now }
+    ensures { let t = task.entry in result ≡ answered (moved_search t.n t.parts by.0 (bounds_in t.start.now) (t.cycles.0 - k.0) (suc k.0)
+        (list_in (zone_size t.n) count (drop base work.old)) (past_by t.end)) }
 {
-    let end = task.end;
-    if !by.beyond(0) {
-        return past(end);
+    let past = task.end.answer();
+    if by == ZERO {
+        return past;
     }
     let n = task.n;
     let parts = task.parts;
-    let cycles = task.cycles;
-    let last = cycles.0;
-    let mut at = k.0;
-    while at < last {
-        at += 1;
+    for at in k.0..task.cycles.0 {
         moves::move_list(work, base, count, n, by);
-        let found = lists::first_common(work, base, count, start, n, parts);
-        if found.some {
-            return reached(found, parts, Cycle(at));
+        if let Some(times) = lists::first_common(work, base, count, task.start, n, parts) {
+            return Ok(Verdict::Reached(Cycle(at + 1), StartTimes { parts, times }));
         }
     }
-    past(end)
+    past
 }
 
-// The answer of a search, with a table for the sets met.
-fn search_with(
-    work: &mut [i32],
-    times: &[i32],
-    start: &[i32],
-    target: &[i32],
-    seen: &mut [i32],
-    task: Task,
-) -> Answer
-    requires { Searchable task.n task.parts task.capacity task.cycles.0 (length work.old) times.now start.now target.now
+// The answer of a search, with a table for the sets met. The two halves of the workspace hold a list and the next one in turn.
+fn search_with(work: &mut [i32], seen: &mut [i32], task: Task) -> Answer
+    requires { Searchable task.n task.parts task.capacity task.cycles.0 (length work.old) task.times.now task.start.now task.target.now
         × (size_seen task.n ≤ length seen.old) }
-    ensures { Searched (network_in task.n task.cycles.0 times.now start.now target.now)
-        task.capacity task.cycles.0 task.end result }
+    ensures { let t = task.entry in
+        Searched (network_in t.n t.cycles.0 t.times.now t.start.now t.target.now) t.capacity t.cycles.0 t.end result }
 {
-    let capacity = task.capacity;
     let n = task.n;
-    let cycles = task.cycles;
-    let last = cycles.0;
-    let half = capacity * memory::zone_size(n);
-    let mut count = lists::first_list(work, target, n);
+    let parts = task.parts;
+    let half = task.capacity * memory::zone_size(n);
+    let mut count = lists::first_list(work, task.target, n);
     let mut source = 0;
-    let mut k = 0;
-    while k < last && count > 0 {
+    for k in 0..task.cycles.0 {
+        if count == 0 {
+            break;
+        }
+        let cycle = Cycle(k + 1);
         let goal = half - source;
-        k += 1;
-        let next = one_cycle(
+        let made = lists::next_list(
             work,
             source,
             goal,
             count,
-            capacity,
-            times,
-            start,
+            task.capacity,
+            task.times,
             seen,
             n,
-            task.parts,
-            Cycle(k),
         );
-        if next.ended {
-            return next.answer;
+        let Some(next) = made else {
+            return Err(Fault::TableFull(cycle));
+        };
+        if let Some(times) = lists::first_common(work, goal, next, task.start, n, parts) {
+            return Ok(Verdict::Reached(cycle, StartTimes { parts, times }));
         }
-        let found = moves::find_move(work, source, count, goal, next.count, n);
-        if found.some {
-            return move_on(work, goal, next.count, start, task, Cycle(k), found.by);
+        if let Some(by) = moves::find_move(work, source, count, goal, next, n) {
+            return move_on(work, goal, next, task, cycle, by);
         }
-        count = next.count;
+        count = next;
         source = goal;
     }
     if count == 0 {
-        return plain(Verdict::Never);
+        return Ok(Verdict::Never);
     }
-    let end = task.end;
-    past(end)
+    task.end.answer()
 }
 
-// The answer of a search over so many cycles; parts is what a start is in, end what getting past the cycles means. What the workspace holds afterwards
-// is free. All of the table for the sets met is cleared, so it is made no longer than such a network asks for.
-pub fn search(
-    work: &mut [i32],
-    capacity: usize,
-    times: &[i32],
-    start: &[i32],
-    target: &[i32],
-    n: usize,
-    parts: usize,
-    cycles: Cycle,
-    end: End,
-) -> Answer
-    requires { Searchable n parts capacity cycles.0 (length work.old) times.now start.now target.now }
-    ensures { Searched (network_in n cycles.0 times.now start.now target.now) capacity cycles.0 end result }
+// The same, with that table.
+fn search_in<const SIZE: usize>(work: &mut [i32], task: Task) -> Answer
+    requires { Searchable task.n task.parts task.capacity task.cycles.0 (length work.old) task.times.now task.start.now task.target.now
+        × (size_seen task.n ≤ SIZE) × (SIZE < 2 ^ 61) }
+    ensures { let t = task.entry in
+        Searched (network_in t.n t.cycles.0 t.times.now t.start.now t.target.now) t.capacity t.cycles.0 t.end result }
 {
-    let task = Task {
-        capacity,
-        n,
-        parts,
-        cycles,
-        end,
-    };
-    if n <= lists::SMALL {
-        let mut seen = [0i32; lists::SMALL_SEEN];
-        return search_with(work, times, start, target, &mut seen, task);
+    let mut seen = [0i32; SIZE];
+    search_with(work, &mut seen, task)
+}
+
+// The answer of a search. What the workspace holds afterwards is free. All of the table for the sets met is cleared, so it is made no longer than such a
+// network asks for.
+pub fn search(work: &mut [i32], task: Task) -> Answer
+    requires { Searchable task.n task.parts task.capacity task.cycles.0 (length work.old) task.times.now task.start.now task.target.now }
+    ensures { let t = task.entry in
+        Searched (network_in t.n t.cycles.0 t.times.now t.start.now t.target.now) t.capacity t.cycles.0 t.end result }
+{
+    if task.n <= lists::SMALL {
+        return search_in::<{ lists::SMALL_SEEN }>(work, task);
     }
-    if n <= lists::MIDDLE {
-        let mut seen = [0i32; lists::MIDDLE_SEEN];
-        return search_with(work, times, start, target, &mut seen, task);
+    if task.n <= lists::MIDDLE {
+        return search_in::<{ lists::MIDDLE_SEEN }>(work, task);
     }
-    let mut seen = [0i32; lists::LARGE_SEEN];
-    search_with(work, times, start, target, &mut seen, task)
+    search_in::<{ lists::LARGE_SEEN }>(work, task)
 }

@@ -1,4 +1,3 @@
 -- The laws that the functions' proofs share.
-pub mod Places
 pub mod Readied
 pub mod Parted

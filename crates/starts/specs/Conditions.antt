@@ -1,38 +1,17 @@
 -- What the functions require and ensure.
-use Rattle.std.specs.Prelude.{ℕ, suc, ◌+◌, ◌*◌, ◌≤◌, ◌<◌, ◌≡◌, Bool, List, map, ℤ, length, take}
+use Rattle.std.specs.Prelude.{ℕ, suc, ◌≤◌, ◌<◌, ◌≡◌, List, map, ℤ, length, take}
 use Rattle.std.proofs.Math.Option.{some}
 use Rattle.model.specs.Sizes.{zone_size, most_departures, most_numbers}
 use Rattle.model.specs.Lists.{tabulate}
-use Rattle.model.specs.Bound.{Bound, scale, whole}
+use Rattle.model.specs.Bound.{scale, whole}
 use Rattle.model.specs.Matrix.{Matrix, entry, everything, Constraint}
 use Rattle.model.specs.Search.{bounds_of, wholes}
 use Rattle.model.specs.Conditions.{Departures, Bounded, Fitting}
 use Rattle.memory.specs.Conditions.{ZoneIn}
-use Rattle.memory.specs.Matrices.{Relaxable, leaves, Left, SomeLeft, limited, Takes, TakesOne}
+use Rattle.memory.specs.Matrices.{SomeLeft, Takes}
 use Rattle.memory.specs.Numbers as Memory
 use Rattle.memory.specs.Numbers.{InMemory}
-use Rattle.starts.specs.Numbers.{bounds_in, Largest, Stored}
-
--- the most that a limit is in size: a bound and two times, each a number that was read
-abbrev pub LimitMost : ℕ
-LimitMost = 3 * Largest
-
--- row i can take in the way by row b
-abbrev pub RelaxReady : ℕ → List ℤ → ℕ → ℕ → Bound → Type 0
-RelaxReady n z i b way = Relaxable n Stored (Largest + LimitMost) z (bounds_in z) i b way
-
--- z can take in that x(a) - x(b) is within limit
-abbrev pub TakingOne : ℕ → List ℤ → ℕ → ℕ → Bound → Type 0
-TakingOne n z a b limit = TakesOne n Stored LimitMost (bounds_in z) a b limit
-
--- and that leaves some times
-pub record ConstrainReady (n : ℕ) (z : List ℤ) (a b : ℕ) (limit : Bound) : Type 0 where
-  pub one : TakingOne n z a b limit
-  pub times : SomeLeft n (bounds_in z) (limited a b limit)
-
--- r and z' are what the constraints ks leave of z
-abbrev pub Taken : ℕ → List ℤ → List Constraint → Bool → List ℤ → Type 0
-Taken n z ks r z' = Left (leaves n (bounds_in z) ks) r (bounds_in z')
+use Rattle.starts.specs.Numbers.{bounds_in, Stored}
 
 -- the bounds of d on x(i) - x(j) for each j, as constraints
 abbrev pub bound_limit : ℕ → Matrix → ℕ → ℕ → Constraint
@@ -53,11 +32,6 @@ pub record RowReady (n : ℕ) (z bounds : List ℤ) (i : ℕ) : Type 0 where
 
 abbrev pub AllReady : ℕ → List ℤ → List ℤ → Type 0
 AllReady n z bounds = Ready n z bounds (bounds_of (suc n) (bounds_in bounds))
-
--- the front of r is what the bounds leave of the front of z
-pub record Tightened (n : ℕ) (z bounds r : List ℤ) : Type 0 where
-  pub left : leaves n (bounds_in (take (zone_size n) z)) (bounds_of (suc n) (bounds_in bounds)) ≡ some (bounds_in (take (zone_size n) r))
-  pub long : length r ≡ most_numbers
 
 -- the bounds leave some times, and no set on the way has a finite bound beyond Stored
 pub record BoundsReady (n : ℕ) (bounds : List ℤ) : Type 0 where

@@ -1,5 +1,5 @@
 // Standard input, however it comes: in pieces, longer than any case, closed, or not ready yet.
-ghost use Rattle.std.specs.Prelude.{◌≤◌, length, IfOk};
+ghost use Rattle.std.specs.Prelude.{◌≤◌, length, IfOk, IfSome};
 
 use crate::waiting::call_again;
 use std::io::{self, Read};
@@ -8,37 +8,16 @@ use std::rt::Stdin;
 // The error of a descriptor that is closed.
 const CLOSED: i32 = 9;
 
-// How many bytes were read, and whether there may be more.
-#[derive(Clone, Copy)]
-struct Piece {
-    size: usize,
-    more: bool,
-}
-
-// One read. A closed input is one that has ended.
-fn read_piece(mut stdin: Stdin, part: &mut [u8]) -> io::Result<Piece>
-    ensures { IfOk result (λ p. p.size ≤ length part.new) }
+// One read: how many bytes came, or None where the input has ended, as a closed one has.
+fn read_piece(mut stdin: Stdin, part: &mut [u8]) -> io::Result<Option<usize>>
+    ensures { IfOk result (λ piece. IfSome piece (λ size. size ≤ length part.new)) }
 {
     match stdin.read(part) {
-        Ok(size) => Ok(Piece {
-            size,
-            more: size > 0,
-        }),
-        Err(e) => {
-            if call_again(&e) {
-                return Ok(Piece {
-                    size: 0,
-                    more: true,
-                });
-            }
-            if e.raw_os_error() == Some(CLOSED) {
-                return Ok(Piece {
-                    size: 0,
-                    more: false,
-                });
-            }
-            Err(e)
-        }
+        Ok(0) => Ok(None),
+        Ok(size) => Ok(Some(size)),
+        Err(e) if call_again(&e) => Ok(Some(0)),
+        Err(e) if e.raw_os_error() == Some(CLOSED) => Ok(None),
+        Err(e) => Err(e),
     }
 }
 
@@ -51,10 +30,9 @@ pub(crate) fn read_case(stdin: Stdin, bytes: &mut [u8]) -> io::Result<usize>
         if size >= bytes.len() {
             break;
         }
-        let piece = read_piece(stdin, &mut bytes[size..])?;
-        size += piece.size;
-        if !piece.more {
-            break;
+        match read_piece(stdin, &mut bytes[size..])? {
+            Some(more) => size += more,
+            None => break,
         }
     }
     Ok(size)

@@ -13,9 +13,8 @@ fn main(rt: HostRuntime) -> io::Result<()> {
         Ok(size) => size,
         Err(e) => return eprintln!(rt; "tramcheck: standard input: {e}"),
     };
-    let mut text = [0u8; report::TEXT];
-    let length = report::report_input(&bytes, size, &mut text);
-    match output::print(rt.stdout(), &text[..length]) {
+    let text = report::report_input(&bytes, size);
+    match output::print(rt.stdout(), text.as_bytes()) {
         Ok(()) => Ok(()),
         Err(e) => eprintln!(rt; "tramcheck: standard output: {e}"),
     }

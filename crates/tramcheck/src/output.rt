@@ -10,13 +10,8 @@ fn write_piece(mut stdout: Stdout, part: &[u8]) -> io::Result<usize>
     ensures { IfOk result (λ size. size ≤ length part.now) }
 {
     match stdout.write(part) {
-        Ok(size) => Ok(size),
-        Err(e) => {
-            if call_again(&e) {
-                return Ok(0);
-            }
-            Err(e)
-        }
+        Err(e) if call_again(&e) => Ok(0),
+        written => written,
     }
 }
 

@@ -1,10 +1,10 @@
 // Makes a call, and writes the answer.
-ghost use Rattle.std.specs.Prelude.{◌≤◌};
-
-use crate::call::{Call, ROOM, SIZE};
-use crate::{call, text};
-use ints::Cycle;
-use model::{Answer, Judged, Run, Verdict, Written};
+use crate::call::{Call, Form, ROOM, SIZE, What};
+use crate::reader;
+use crate::text::{Heading, Refused, Times};
+use ints::{Cycle, Seconds, ZERO};
+use model::{Answer, DEPARTURES, Fault, Verdict};
+use std::fmt;
 use std::io::{self, Print};
 use std::rt::Stdout;
 
@@ -12,191 +12,132 @@ use std::rt::Stdout;
 const MARK: i32 = 7;
 
 // The workspace after a call.
-const CLEARED: u8 = 0;
+#[derive(Clone, Copy, PartialEq, Eq)]
+enum Work {
+    Empty,
+    Zero,
+    Unchanged,
+    Changed,
+}
 
-const UNCHANGED: u8 = 1;
+impl Work {
+    fn of(work: &[i32]) -> Work {
+        if work.is_empty() {
+            Work::Empty
+        } else if work.iter().all(|number| *number == 0) {
+            Work::Zero
+        } else if work.iter().all(|number| *number == MARK) {
+            Work::Unchanged
+        } else {
+            Work::Changed
+        }
+    }
+}
 
-const CHANGED: u8 = 2;
+impl fmt::Display for Work {
+    fn fmt<W: fmt::Write>(&self, f: &mut fmt::Formatter<W>) -> fmt::Result {
+        let state = match self {
+            Work::Empty => "empty",
+            Work::Zero => "zero",
+            Work::Unchanged => "unchanged",
+            Work::Changed => "changed",
+        };
+        write!(f, "workspace {state}")
+    }
+}
 
-const EMPTY: u8 = 3;
-
-// What a line says of a call.
-#[derive(Clone, Copy)]
+// What a line says of a verdict. Where none is reached, the start is all 0.
+#[derive(Clone, Copy, PartialEq, Eq)]
 struct Outcome {
     answer: Answer,
-    work: u8,
+    work: Work,
 }
 
-fn state_of(work: &[i32]) -> u8 {
-    let mut zero = true;
-    let mut unchanged = true;
-    for k in 0..work.len() {
-        let number = work[k];
-        zero = zero & (number == 0);
-        unchanged = unchanged & (number == MARK);
-    }
-    if work.len() == 0 {
-        EMPTY
-    } else if zero {
-        CLEARED
-    } else if unchanged {
-        UNCHANGED
-    } else {
-        CHANGED
+impl fmt::Display for Outcome {
+    fn fmt<W: fmt::Write>(&self, f: &mut fmt::Formatter<W>) -> fmt::Result {
+        let times = match self.answer {
+            Ok(Verdict::Reached(_, start)) => start.times,
+            _ => [ZERO; DEPARTURES],
+        };
+        write!(
+            f,
+            "{}, start{}, {}",
+            Heading(self.answer),
+            Times(times),
+            self.work
+        )
     }
 }
 
-fn least(a: usize, b: usize) -> usize
-    ensures { result ≤ b }
-{
-    if a < b { a } else { b }
-}
-
-fn on_bytes(bytes: &[u8], length: usize, capacity: usize, work: &mut [i32]) -> Answer {
-    let end = least(length, bytes.len());
-    verdict::verdict_packed(&bytes[..end], capacity, work)
-}
-
-// The verdict on the bytes, or on the case.
-fn verdict_on(call: Call, packed: bool, work: &mut [i32]) -> Answer {
-    if packed {
-        let bytes = call.bytes;
-        return on_bytes(&bytes, call.length, call.zones, work);
-    }
-    verdict::verdict(call::case_of(call), call.zones, work)
-}
-
-fn judged(call: Call, packed: bool, work: &mut [i32]) -> Outcome {
-    let answer = verdict_on(call, packed, work);
-    let state = state_of(work);
-    Outcome {
-        answer,
-        work: state,
-    }
-}
-
-fn made(call: Call, packed: bool) -> Outcome {
-    let mut work = [MARK; ROOM];
-    let size = least(call.room, ROOM);
-    judged(call, packed, &mut work[..size])
-}
-
-// The parts of a second that the start is in are told where there are more than one.
-fn write_verdict(out: Stdout, verdict: Verdict, parts: usize) -> io::Result<()> {
-    match verdict {
-        Verdict::Reached(k) => {
-            out.write_all(b"reached ")?;
-            out.print(k.0 as u64)?;
-            if parts <= 1 {
-                return Ok(());
-            }
-            out.write_all(b" of ")?;
-            out.print(parts as u64)
+impl Outcome {
+    // The verdict on the bytes, if they are what the call is on, or on the case.
+    fn of(call: &Call) -> Outcome {
+        let mut work = [MARK; ROOM];
+        let work = &mut work[..call.room.min(ROOM)];
+        let answer = if call.what == What::Packed {
+            let bytes = &call.bytes[..call.length.min(SIZE)];
+            verdict::verdict_packed(bytes, call.zones, work)
+        } else {
+            verdict::verdict(call.case, call.zones, work)
+        };
+        Outcome {
+            answer,
+            work: Work::of(work),
         }
-        Verdict::Clear(horizon) => {
-            out.write_all(b"clear ")?;
-            out.print(horizon.0 as u64)
-        }
-        Verdict::Never => out.write_all(b"never"),
-        Verdict::Refused(fault) => text::refused(out, fault),
     }
-}
-
-fn write_work(out: Stdout, work: u8) -> io::Result<()> {
-    match work {
-        CLEARED => out.write_all(b", workspace zero"),
-        UNCHANGED => out.write_all(b", workspace unchanged"),
-        EMPTY => out.write_all(b", workspace empty"),
-        _ => out.write_all(b", workspace changed"),
-    }
-}
-
-fn write_outcome(out: Stdout, outcome: Outcome) -> io::Result<()> {
-    let answer = outcome.answer;
-    let verdict = answer.verdict;
-    let start = answer.start;
-    write_verdict(out, verdict, answer.parts)?;
-    out.write_all(b", start")?;
-    text::times(out, start)?;
-    write_work(out, outcome.work)
-}
-
-fn same(a: Outcome, b: Outcome) -> bool {
-    let first = a.answer;
-    let second = b.answer;
-    let u = first.verdict;
-    let v = second.verdict;
-    let x = first.start;
-    let y = second.start;
-    u.kind() == v.kind()
-        && u.fault() == v.fault()
-        && u.value() == v.value()
-        && first.parts == second.parts
-        && text::same_times(x, y)
-        && a.work == b.work
 }
 
 // What a packed form of the case gives, beside the unpacked one.
-fn compared(out: Stdout, call: Call, wide: bool, unpacked: Outcome) -> io::Result<()> {
-    let written = call::packed(call, wide);
-    if written.length == 0 {
-        return out.write_all(b"refused");
+fn compared(out: Stdout, call: &Call, form: Form, unpacked: Outcome) -> io::Result<()> {
+    let mut packed = *call;
+    packed.pack(form);
+    if packed.length == 0 {
+        return print!(out; "refused");
     }
-    let packed = made(written, true);
-    if same(unpacked, packed) {
-        out.write_all(b"the same")
+    let packed = Outcome::of(&packed);
+    if packed == unpacked {
+        print!(out; "the same")
     } else {
-        write_outcome(out, packed)
+        print!(out; "{packed}")
     }
 }
 
-fn both(out: Stdout, call: Call) -> io::Result<()> {
-    let unpacked = made(call, false);
-    write_outcome(out, unpacked)?;
-    out.write_all(b"; packed ")?;
-    compared(out, call, false, unpacked)?;
-    out.write_all(b"; wide ")?;
-    compared(out, call, true, unpacked)
+fn every(out: Stdout, call: &Call) -> io::Result<()> {
+    let unpacked = Outcome::of(call);
+    print!(out; "{unpacked}; packed ")?;
+    compared(out, call, Form::Old, unpacked)?;
+    print!(out; "; wide ")?;
+    compared(out, call, Form::Wide, unpacked)
 }
 
-fn write_run(out: Stdout, run: Run) -> io::Result<()> {
-    let judged = run.judged;
-    let times = run.times;
-    if let Judged::Refused(fault) = judged {
-        text::refused(out, fault)?;
-        out.write_all(b", ")?;
+// The times of a run: all 0 where it is refused.
+fn run(out: Stdout, times: Result<[Seconds; DEPARTURES], Fault>) -> io::Result<()> {
+    if let Err(fault) = times {
+        print!(out; "{}, ", Refused(fault))?;
     }
-    out.write_all(b"times")?;
-    text::times(out, times)
+    print!(out; "times{}", Times(times.unwrap_or([ZERO; DEPARTURES])))
 }
 
-fn written(out: Stdout, call: Call) -> io::Result<()> {
-    let mut bytes = [0u8; SIZE];
-    let size = least(call.size, SIZE);
-    match call::write(call::case_of(call), call.wide, &mut bytes[..size]) {
-        Written::Bytes(length) => {
-            out.print(length as u64)?;
-            out.write_all(b" bytes")
-        }
-        Written::Refused(fault) => text::refused(out, fault),
+fn output(out: Stdout, call: &Call) -> io::Result<()> {
+    let mut bytes = [0; SIZE];
+    match call
+        .form
+        .write(call.case, &mut bytes[..call.size.min(SIZE)])
+    {
+        Ok(length) => print!(out; "{length} bytes"),
+        Err(fault) => print!(out; "{}", Refused(fault)),
     }
 }
 
-pub(crate) fn answer(out: Stdout, call: Call) -> io::Result<()> {
-    let what = call.what;
-    let from = call.from;
-    if call.bad {
-        return out.write_all(b"NOT READ");
-    }
-    match what {
-        0 => both(out, call),
-        b'U' => write_outcome(out, made(call, false)),
-        b'y' => write_outcome(out, made(call, true)),
-        b'R' => write_run(out, runs::run(call::case_of(call), from, Cycle(call.size))),
-        b'D' => write_run(
-            out,
-            runs::run_parts(call::case_of(call), from, Cycle(call.size)),
-        ),
-        _ => written(out, call),
+pub(crate) fn answer(out: Stdout, text: &[u8]) -> io::Result<()> {
+    let Ok(call) = reader::read(text) else {
+        return print!(out; "NOT READ");
+    };
+    match call.what {
+        What::Every => every(out, &call),
+        What::Unpacked | What::Packed => print!(out; "{}", Outcome::of(&call)),
+        What::Run => run(out, runs::run(call.case, call.from, Cycle(call.size))),
+        What::RunInParts => run(out, runs::run_parts(call.case, call.from, Cycle(call.size))),
+        What::Output => output(out, &call),
     }
 }

@@ -25,6 +25,7 @@ use std::rt::{Stdin, Stdout};
 
 mod answers;
 mod call;
+mod reader;
 mod text;
 mod words;
 
@@ -53,41 +54,34 @@ fn read_all(mut stdin: Stdin, input: &mut [u8]) -> io::Result<usize>
         match stdin.read(&mut input[size..]) {
             Ok(0) => break,
             Ok(more) => size += more,
-            Err(e) => {
-                if e.kind() != ErrorKind::Interrupted {
-                    return Err(e);
-                }
-            }
+            Err(e) if e.kind() == ErrorKind::Interrupted => {}
+            Err(e) => return Err(e),
         }
     }
     Ok(size)
 }
 
 fn lines(out: Stdout, input: &[u8]) -> io::Result<()> {
-    let mut at = 0;
-    while at < input.len() {
-        let end = words::find(input, at, b'\n');
-        line(out, &input[at..end])?;
-        at = end;
-        if at < input.len() {
-            at += 1;
-        }
+    for piece in input.split_inclusive(|byte| *byte == b'\n') {
+        line(out, piece.strip_suffix(b"\n").unwrap_or(piece))?;
+        out.write_all(b"\n")?;
     }
     Ok(())
 }
 
+// A heading as it is; of a call its name, which is all of it where it has none, and the answer.
 fn line(out: Stdout, text: &[u8]) -> io::Result<()> {
-    if text.len() > 0 && text[0] != b'#' {
-        let end = words::find(text, 0, b':');
-        out.write_all(&text[..end])?;
-        out.write_all(b": ")?;
-        if end == text.len() {
-            answers::answer(out, call::read(text))?;
-        } else {
-            answers::answer(out, call::read(&text[end + 1..]))?;
-        }
-    } else if text.len() > 0 {
-        out.write_all(&text[1..])?;
+    if text.is_empty() {
+        return Ok(());
     }
-    out.write_all(b"\n")
+    if let Some(heading) = text.strip_prefix(b"#") {
+        return out.write_all(heading);
+    }
+    let (name, call) = match text.iter().position(|byte| *byte == b':') {
+        Some(end) => (&text[..end], &text[end + 1..]),
+        None => (text, text),
+    };
+    out.write_all(name)?;
+    out.write_all(b": ")?;
+    answers::answer(out, call)
 }

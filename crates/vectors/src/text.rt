@@ -1,39 +1,46 @@
-// Writes numbers, times and faults.
+// How times, faults and answers are written.
 use ints::Seconds;
-use model::{DEPARTURES, Fault};
-use std::io::{self, Print};
-use std::rt::Stdout;
+use model::{Answer, DEPARTURES, Fault, Verdict};
+use std::fmt;
 
-fn signed(out: Stdout, time: Seconds) -> io::Result<()> {
-    if time.0 < 0 {
-        out.write_all(b"-")?;
+// All times, a blank before each.
+#[derive(Clone, Copy)]
+pub(crate) struct Times(pub [Seconds; DEPARTURES]);
+
+impl fmt::Display for Times {
+    fn fmt<W: fmt::Write>(&self, f: &mut fmt::Formatter<W>) -> fmt::Result {
+        for time in &self.0 {
+            write!(f, " {}", time.0)?;
+        }
+        Ok(())
     }
-    out.print(puts::magnitude(time))
 }
 
-// All times.
-pub(crate) fn times(out: Stdout, values: [Seconds; DEPARTURES]) -> io::Result<()> {
-    for i in 0..DEPARTURES {
-        let time = values[i];
-        out.write_all(b" ")?;
-        signed(out, time)?;
+#[derive(Clone, Copy)]
+pub(crate) struct Refused(pub Fault);
+
+impl fmt::Display for Refused {
+    fn fmt<W: fmt::Write>(&self, f: &mut fmt::Formatter<W>) -> fmt::Result {
+        write!(f, "refused {} {}", self.0.number(), self.0.returned())
     }
-    Ok(())
 }
 
-pub(crate) fn same_times(a: [Seconds; DEPARTURES], b: [Seconds; DEPARTURES]) -> bool {
-    let mut same = true;
-    for i in 0..DEPARTURES {
-        let x = a[i];
-        let y = b[i];
-        same = same & (x.0 == y.0);
-    }
-    same
-}
+// An answer without its start; the parts of a second that the start is in are told where there are more than one.
+#[derive(Clone, Copy)]
+pub(crate) struct Heading(pub Answer);
 
-pub(crate) fn refused(out: Stdout, fault: Fault) -> io::Result<()> {
-    out.write_all(b"refused ")?;
-    out.print(fault.number() as u64)?;
-    out.write_all(b" ")?;
-    out.print(fault.returned() as u64)
+impl fmt::Display for Heading {
+    fn fmt<W: fmt::Write>(&self, f: &mut fmt::Formatter<W>) -> fmt::Result {
+        match self.0 {
+            Ok(Verdict::Reached(cycle, start)) if start.parts > 1 => write!(
+                f,
+                "reached {} of {}",
+                cycle.0, start.parts
+            ),
+            Ok(Verdict::Reached(cycle, _)) => write!(f, "reached {}", cycle.0),
+            Ok(Verdict::Clear(horizon)) => write!(f, "clear {}", horizon.0),
+            Ok(Verdict::Never) => write!(f, "never"),
+            Err(fault) => write!(f, "{}", Refused(fault)),
+        }
+    }
 }

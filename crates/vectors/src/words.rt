@@ -1,104 +1,121 @@
 // Words and numbers of a line.
-ghost use Rattle.std.specs.Prelude.{◌<◌, ◌≤◌, length};
-
-// Where a byte first is from a place on, or the end.
-pub(crate) fn find(s: &[u8], from: usize, byte: u8) -> usize
-    requires { from ≤ length s.now }
-    ensures { (from ≤ result) × (result ≤ length s.now) }
-{
-    let mut at = from;
-    while at < s.len() && s[at] != byte {
-        at += 1;
-    }
-    at
-}
+use crate::call::{NotRead, What};
+use std::str;
 
 // What a byte is part of.
-pub(crate) const BLANK: u8 = 0;
+#[derive(Clone, Copy, PartialEq, Eq)]
+pub(crate) enum Kind {
+    Blank,
+    Number,
+    Word,
+}
 
-pub(crate) const NUMBER: u8 = 1;
-
-pub(crate) const WORD: u8 = 2;
-
-pub(crate) fn kind(byte: u8) -> u8 {
-    match byte {
-        b' ' | b',' => BLANK,
-        b'0'..=b'9' => NUMBER,
-        _ => WORD,
+impl Kind {
+    pub(crate) fn of(byte: u8) -> Kind {
+        match byte {
+            b' ' | b',' => Kind::Blank,
+            b'0'..=b'9' => Kind::Number,
+            _ => Kind::Word,
+        }
     }
 }
 
-// Where the word, number or blank ends that starts at a place.
-pub(crate) fn token_end(s: &[u8], from: usize) -> usize
-    requires { from < length s.now }
-    ensures { (from < result) × (result ≤ length s.now) }
-{
-    let first = kind(s[from]);
-    let mut at = from + 1;
-    while at < s.len() && kind(s[at]) == first {
-        at += 1;
-    }
-    at
-}
-
-// Decimal digits, and whether the number fits.
+// How a bound is written.
 #[derive(Clone, Copy)]
-pub(crate) struct Number {
-    pub value: u64,
-    pub fits: bool,
+pub(crate) enum Relation {
+    Less,
+    AtMost,
+    More,
+    AtLeast,
 }
 
-fn with_digit(number: Number, digit: u8) -> Number {
-    let value = number.value;
-    if digit < b'0' || digit > b'9' {
-        return Number { value, fits: false };
-    }
-    let last = digit as u64 - 48;
-    if value > (u64::MAX - last) / 10 {
-        return Number { value, fits: false };
-    }
-    Number {
-        value: value * 10 + last,
-        fits: number.fits,
+// What a number is that is a time.
+#[derive(Clone, Copy)]
+pub(crate) enum Time {
+    Entry,
+    EveryEntry,
+    EveryBound,
+    Start,
+    Bound(Relation),
+}
+
+// What a number is that counts.
+#[derive(Clone, Copy)]
+pub(crate) enum Count {
+    Departures,
+    Horizon,
+    Zones,
+    Room,
+    Size,
+    Length,
+    First,
+    Second,
+    Byte,
+    Bit,
+}
+
+// What a word says.
+#[derive(Clone, Copy)]
+pub(crate) enum Word {
+    // no meaning of its own
+    Filler,
+    Table,
+    Row,
+    Blank,
+    Absent,
+    Target,
+    Departure,
+    Minus,
+    Time(Time),
+    Count(Count),
+    Made(What),
+    Packed,
+    Wide,
+    Bytes,
+    Output,
+}
+
+impl Word {
+    pub(crate) fn of(text: &[u8]) -> Result<Word, NotRead> {
+        Ok(match text {
+            b"=" | b"any" | b"and" | b"every" | b"set" | b"added" | b"in" | b"no" => Word::Filler,
+            b"A" => Word::Table,
+            b"/" => Word::Row,
+            b"blank" => Word::Blank,
+            b"absent" => Word::Absent,
+            b"to" => Word::Target,
+            b"x" => Word::Departure,
+            b"-" => Word::Minus,
+            b"<" => Word::Time(Time::Bound(Relation::Less)),
+            b"<=" => Word::Time(Time::Bound(Relation::AtMost)),
+            b">" => Word::Time(Time::Bound(Relation::More)),
+            b">=" => Word::Time(Time::Bound(Relation::AtLeast)),
+            b"time" => Word::Time(Time::EveryEntry),
+            b"bound" => Word::Time(Time::EveryBound),
+            b"from" => Word::Time(Time::Start),
+            b"n" => Word::Count(Count::Departures),
+            b"N" => Word::Count(Count::Horizon),
+            b"Z" => Word::Count(Count::Zones),
+            b"workspace" => Word::Count(Count::Room),
+            b"cycle" => Word::Count(Count::Size),
+            b"cut" => Word::Count(Count::Length),
+            b"bit" => Word::Count(Count::Bit),
+            b"unpacked" => Word::Made(What::Unpacked),
+            b"run" => Word::Made(What::Run),
+            b"parts" => Word::Made(What::RunInParts),
+            b"packed" => Word::Packed,
+            b"wide" => Word::Wide,
+            b"bytes" | b"byte" => Word::Bytes,
+            b"output" => Word::Output,
+            _ => return Err(NotRead),
+        })
     }
 }
 
-pub(crate) fn decimal(digits: &[u8]) -> Number {
-    let mut number = Number {
-        value: 0,
-        fits: true,
+// The number that decimal digits are.
+pub(crate) fn decimal(digits: &[u8]) -> Result<u64, NotRead> {
+    let Ok(text) = str::from_utf8(digits) else {
+        return Err(NotRead);
     };
-    for k in 0..digits.len() {
-        number = with_digit(number, digits[k]);
-    }
-    number
-}
-
-fn letter(word: &[u8], at: usize) -> u8 {
-    if at < word.len() { word[at] } else { b' ' }
-}
-
-// One letter for a word, or 0 for one that is not in the list. There the letter stands before the word, and a blank behind it.
-pub(crate) fn code(word: &[u8], list: &[u8]) -> u8 {
-    let mut code = 0;
-    let mut at = 0;
-    let mut same = true;
-    for k in 0..list.len() {
-        let c = list[k];
-        if code == 0 {
-            code = c;
-        } else {
-            same = same & (letter(word, at) == c);
-            at = std::num::wrapping_add_usize(at, 1);
-        }
-        if c == b' ' {
-            if same {
-                return code;
-            }
-            code = 0;
-            at = 0;
-            same = true;
-        }
-    }
-    0
+    text.parse().map_err(|_| NotRead)
 }

@@ -1,4 +1,2 @@
-mod Plans
 mod Within
 mod Answered
-pub mod Demanded

@@ -1,103 +1,161 @@
 -- What a case within the limits gives the functions that search it.
 use Prim.Native.Nat.{ℕ, ◌≤◌}
 use native.Mathlib.Omega.{arith}
-use mathlib.Core.Path.{◌≡◌, refl, ap, ◌∙◌}
+use mathlib.Core.Path.{◌≡◌, refl, sym, ap, ◌∙◌}
 use mathlib.Core.Bool.{Bool, ◌||◌}
-use mathlib.Core.List.{List}
-use mathlib.Core.Option.{some}
+use mathlib.Core.List.{List, map}
 use lib.IntN.{ℤ}
-use lib.ListN.{take}
+use lib.ListN.{length, take}
+use lib.Seq.{length-take-le}
+use Rattle.std.specs.Prelude.{Result, Option, Some, None}
 use Rattle.model.specs.declared.Case.{Case}
-use Rattle.model.specs.declared.Answer.{Answer}
-use Rattle.model.specs.Sizes.{table_size, pattern_size}
+use Rattle.model.specs.declared.Fault.{Fault}
+use Rattle.model.specs.declared.Verdict.{Verdict}
+use Rattle.model.specs.Sizes.{bound_limit, table_size, pattern_size, most_bounds, most_cycles}
+use Rattle.model.specs.Lists.{Every}
 use Rattle.model.specs.Pattern.{only_differences}
-use Rattle.model.specs.Network.{Network, Repeat, repeat_of}
+use Rattle.model.specs.Network.{Network, repeat_of}
 use Rattle.model.specs.Search as S
-use Rattle.model.specs.Search.{plan, plan_with, lists, outcome}
+use Rattle.model.specs.Search.{Outcome, plan, plan_with, lists, outcome, parts_of, settled, search_from}
 use Rattle.model.specs.Answers.{answered}
-use Rattle.model.specs.Faults.{network}
+use Rattle.model.specs.Faults.{time_of, bound_of, network}
 use Rattle.model.specs.Demands.{InLimits}
-use Rattle.model.specs.Conditions.{Departures}
+use Rattle.model.specs.Conditions.{Departures, InLimit, BoundInLimit}
 use Rattle.model.proofs.Limits.{case_of_lem, limits_of, room_of}
+use Rattle.model.proofs.Places.{table_fits, pattern_fits}
 use Rattle.model.proofs.Repeats.{repeat_sound}
 use Rattle.model.proofs.Searched as Q
 use Rattle.model.proofs.Searched.{plan_is}
-use Rattle.memory.specs.Numbers.{bounds_in}
-use Rattle.memory.proofs.Cased.{CaseIn, in_table, in_pattern, departures}
+use Rattle.memory.specs.Numbers.{bounds_in, times_in}
+use Rattle.memory.specs.Conditions.{TableIn, PatternIn}
+use Rattle.memory.specs.Networks.{network_in}
+use Rattle.memory.proofs.Cased.{in_table, in_pattern, departures, times_in_limit, start_in_limit, target_in_limit}
 use Rattle.judge.specs.Judgement.{start_parts}
 use Rattle.judge.proofs.Laws.{parts_are}
-use Rattle.powers.specs.declared.Repeated.{Repeated}
+use Rattle.powers.specs.declared.Again.{Again}
 use Rattle.powers.specs.Readings.{repeat_read, repeat_in, TableReady}
-use Rattle.memory.specs.Networks.{network_in}
 use Rattle.search.specs.Searching.{Searchable, Searched}
 use Rattle.verdict.specs.declared.Plan.{Plan}
-use Rattle.verdict.specs.Planning.{Planned}
-use Rattle.verdict.proofs.Plans.{same_search}
+use Rattle.verdict.specs.Planning.{Planned, Counted}
 
+-- ---- sizes: what is put in memory can be, and so can the numbers be lent
 module _ (c : Case) (capacity size : ℕ) (h : InLimits c capacity size) where
-  few : Departures c.n
+  pub few : Departures c.n
   few = departures c (case_of_lem c capacity size h)
 
-  pub counted : (again : Repeat) → repeat_of (network c) ≡ some again → 1 ≤ again.q
-  counted again e = let r = repeat_sound (network c) e in omega (arith, r.q_is)
+  pub times_storable : Every (InLimit bound_limit) (take (table_size c.n) c.times)
+  times_storable = times_in_limit c (case_of_lem c capacity size h)
 
-  module _ {times start target : List ℤ} (e : CaseIn c times start target) where
-    abbrev table : List ℤ
-    table = take (table_size c.n) times
+  pub start_storable : Every BoundInLimit (take (pattern_size c.n) c.start)
+  start_storable = start_in_limit c (case_of_lem c capacity size h)
 
-    abbrev from : List ℤ
-    from = take (pattern_size c.n) start
+  pub target_storable : Every BoundInLimit (take (pattern_size c.n) c.target)
+  target_storable = target_in_limit c (case_of_lem c capacity size h)
 
-    abbrev to : List ℤ
-    to = take (pattern_size c.n) target
+pub taken : (k : ℕ) (numbers : List ℤ) → k ≤ length numbers → length (take k numbers) ≡ k
+taken k numbers h = length-take-le k numbers h
 
-    -- the network in memory can be searched
-    pub searchable : {parts cycles : ℕ} → parts ≡ start_parts c → cycles ≤ c.horizon.0 → Searchable c.n parts capacity cycles size table from to
-    unfolding network
-    searchable p k =
-        let (some_zones, few-zones, long) = room_of c capacity size h in
-        record {
-          horizon = c.horizon.0;
-          limits = rw (e.times_held.0, e.start_held.0, e.target_held.0) (limits_of c capacity size h);
-          parts_told = rw (e.times_held.0, e.start_held.0, e.target_held.0) (p ∙ parts_are c few);
-          within = k;
-          table = in_table few times e.times_held.1;
-          start_held = in_pattern few start e.start_held.1 refl;
-          target_held = in_pattern few target e.target_held.1 refl;
-          some_zones = some_zones;
-          long = long;
-        }
+pub ruleset within_limits = (few, table_fits, pattern_fits, times_storable, start_storable, target_storable, taken)
 
-    -- so can its powers, and what is found in them is the definition's first repeated power
-    pub powers_ready : TableReady c.n table
-    unfolding network
-    powers_ready = record { table = in_table few times e.times_held.1; limits = rw e.times_held.0 (limits_of c capacity size h).table }
+-- ---- the same network with another horizon: a search does not look at the horizon itself
+abbrev within : Network → ℕ → Network
+within w h = record { n = w.n; horizon = h; times = w.times; start = w.start; target = w.target }
 
-    pub repeat_is : repeat_in c.n table ≡ repeat_of (network c)
-    unfolding repeat_of network
-    repeat_is = rw e.times_held.0
-
-    -- the searched horizon is that of the definition
-    pub planned : (rep : Repeated) (free : Bool) {p : Plan}
-        → repeat_read rep ≡ repeat_of (network c)
-        → free ≡ (only_differences c.n (bounds_in from) || only_differences c.n (bounds_in to))
-        → Planned (plan_with c.horizon.0 (repeat_read rep) free) p → Planned (plan (network c)) p
-    unfolding plan network
-    planned rep free r f p = rw (r, f, e.start_held.0, e.target_held.0) at p
-
-    -- and what the search over it answers is the outcome
-    pub found : {p : Plan} {r : Answer} → Planned (plan (network c)) p
-        → Searched (network_in c.n p.cycles.0 table from to) capacity p.cycles.0 p.end r → r ≡ answered (outcome (network c) capacity)
-    unfolding outcome network lists
-    found pl s =
-        let w = network c in
-        let same = same_search w (plan w).cycles capacity (plan w).cycles 1 (lists w 0) (plan w).end in
-        (rw (pl.cycles, pl.end, e.times_held.0, e.start_held.0, e.target_held.0) at s) ∙ ap answered same
+same_search : (w : Network) (h capacity r : ℕ) (end : Outcome)
+    → search_from (within w h) capacity r 1 (lists (within w h) 0) end ≡ search_from w capacity r 1 (lists w 0) end
+unfolding search_from settled parts_of lists
+same_search w h capacity r end = refl
 
 -- the searched horizon is within the horizon
-pub plan_within : (w : Network) → (plan w).cycles ≤ w.horizon
+plan_within : (w : Network) → (plan w).cycles ≤ w.horizon
 plan_within w = go (plan_is w)
   where
     go : {p : S.Plan} → Q.Planned w p → p.cycles ≤ w.horizon
     go (Q.Planned.whole n) = omega arith
     go (Q.Planned.short s) = s.long_enough
+
+-- ---- the case in memory
+pub record Lent (c : Case) (times start target : List ℤ) : Type 0 where
+  pub table : TableIn c.n times
+  pub start_in : PatternIn c.n start
+  pub target_in : PatternIn c.n target
+  pub network_is : (k : ℕ) → network_in c.n k times start target ≡ within (network c) k
+
+-- the first numbers of the arrays that it is put in
+pub lent : (c : Case) (capacity size : ℕ) → InLimits c capacity size → {count room : ℕ} (times start target : List ℤ)
+    → count ≡ table_size c.n → room ≡ pattern_size c.n
+    → (times_in (take count times) ≡ map time_of (take count c.times)) × (length times ≡ most_bounds)
+    → (bounds_in (take room start) ≡ map bound_of (take room c.start)) × (length start ≡ most_bounds)
+    → (bounds_in (take room target) ≡ map bound_of (take room c.target)) × (length target ≡ most_bounds)
+    → Lent c (take count times) (take room start) (take room target)
+unfolding network
+lent c capacity size h times start target k r t s g =
+    let d = few c capacity size h in
+    let t' = rw k at t.0 in
+    let s' = rw r at s.0 in
+    let g' = rw r at g.0 in
+    rw (k, r) (record {
+      table = in_table d times t.1;
+      start_in = in_pattern d start s.1 refl;
+      target_in = in_pattern d target g.1 refl;
+      network_is = λ k. rw (t', s', g') refl;
+    })
+
+module _ (c : Case) (capacity size : ℕ) (h : InLimits c capacity size) {times start target : List ℤ} (l : Lent c times start target) where
+  times_are : times_in times ≡ (network c).times
+  times_are = ap (λ (w : Network). w.times) (l.network_is 0)
+
+  -- its powers can be searched
+  pub powers_ready : TableReady c.n times
+  unfolding network
+  powers_ready = record { table = l.table; limits = rw times_are (limits_of c capacity size h).table }
+
+  module _ (again : Option Again) (found : repeat_read again ≡ repeat_in c.n times) where
+    -- what is found in them is the definition's first repeated power
+    repeat_is : repeat_read again ≡ repeat_of (network c)
+    unfolding repeat_of network
+    repeat_is = found ∙ rw times_are refl
+
+    pub counted : Counted again × (c.horizon.0 ≤ most_cycles)
+    unfolding network
+    counted = (go again repeat_is, (limits_of c capacity size h).few_cycles)
+      where
+        go : (r : Option Again) → repeat_read r ≡ repeat_of (network c) → Counted r
+        go None e = tt
+        go (Some a) e = let r = repeat_sound (network c) (sym e) in omega (arith, r.q_is)
+
+    -- the searched horizon is that of the definition
+    module _ (free : Bool) (free_is : free ≡ (only_differences c.n (bounds_in start) || only_differences c.n (bounds_in target))) (p : Plan)
+        (made : Planned (plan_with c.horizon.0 (repeat_read again) free) p) where
+      planned : Planned (plan (network c)) p
+      unfolding plan network
+      planned =
+          let starts = ap (λ (w : Network). w.start) (l.network_is 0) in
+          let targets = ap (λ (w : Network). w.target) (l.network_is 0) in
+          rw (repeat_is, free_is, starts, targets) at made
+
+      -- over which the network in memory can be searched
+      pub searchable : (parts : ℕ) → parts ≡ start_parts c → Searchable c.n parts capacity p.cycles.0 size times start target
+      unfolding network
+      searchable parts e =
+          let (some_zones, few-zones, long) = room_of c capacity size h in
+          let w = limits_of c capacity size h in
+          record {
+            horizon = c.horizon.0;
+            limits = rw (l.network_is c.horizon.0) w;
+            parts_told = rw (l.network_is c.horizon.0) (e ∙ parts_are c w.table.departures);
+            within = omega (arith, planned.cycles, plan_within (network c));
+            table = l.table;
+            start_held = l.start_in;
+            target_held = l.target_in;
+            some_zones = some_zones;
+            long = long;
+          }
+
+      -- and what the search over it answers is the outcome
+      pub outcome_found : (r : Result Verdict Fault) → Searched (network_in c.n p.cycles.0 times start target) capacity p.cycles.0 p.end r
+          → r ≡ answered (outcome (network c) capacity)
+      unfolding outcome
+      outcome_found r s =
+          (rw (l.network_is p.cycles.0, planned.cycles, planned.end) at s)
+          ∙ ap answered (same_search (network c) (plan (network c)).cycles capacity (plan (network c)).cycles (plan (network c)).end)

@@ -1,7 +1,7 @@
 // Verdicts: a case is judged, then searched, and the workspace is left all zero.
 #![tactic(auto)]
 
-ghost use Rattle.std.specs.Prelude.{◌≡◌, ◌≤◌, ◌<◌, length, replicate, pos};
+ghost use Rattle.std.specs.Prelude.{◌≡◌, ◌≤◌, length, replicate, pos};
 ghost use Rattle.model.specs.Sizes.{most_cycles};
 ghost use Rattle.model.specs.Search.{plan_with, outcome};
 ghost use Rattle.model.specs.Faults.{network};
@@ -11,9 +11,9 @@ ghost use Rattle.powers.specs.Readings.{repeat_read};
 ghost use Rattle.verdict.specs.Planning.{Planned, Counted};
 
 use ints::Cycle;
-use model::{Answer, Case, Judged, Verdict};
-use powers::Repeated;
-use search::End;
+use model::{Answer, Case};
+use powers::Again;
+use search::{End, Task};
 
 // How many cycles are searched, and what getting past them means.
 #[derive(Clone, Copy)]
@@ -22,86 +22,71 @@ struct Plan {
     end: End,
 }
 
-fn plan_of(repeated: Repeated, differences: bool, horizon: Cycle) -> Plan
-    requires { Counted repeated × (horizon.0 ≤ most_cycles) }
-    ensures { Planned (plan_with horizon.0 (repeat_read repeated) differences) result }
+// Never only where a first repeated power lies within the horizon, and a pattern bounds only differences.
+#[tactic(auto, unfolding(model::specs::Search::plan_with))]
+fn plan_of(repeat: Option<Again>, differences: bool, horizon: Cycle) -> Plan
+    requires { Counted repeat × (horizon.0 ≤ most_cycles) }
+    ensures { Planned (plan_with horizon.0 (repeat_read repeat) differences) result }
 {
-    if differences {
-        if let Repeated::At(again) = repeated {
-            let cycles = again.q - 1;
-            if cycles <= horizon.0 {
-                return Plan {
-                    cycles: Cycle(cycles),
-                    end: End::Never,
-                };
-            }
-        }
-    }
-    Plan {
-        cycles: horizon,
-        end: End::Clear(horizon),
-    }
-}
-
-// Sets every number to 0.
-fn clear(work: &mut [i32])
-    ensures { work.new ≡ replicate (length work.old) (pos 0) }
-{
-    for k in 0..work.len() {
-        work[k] = 0;
+    match repeat {
+        Some(again) if differences && again.q - 1 <= horizon.0 => Plan {
+            cycles: Cycle(again.q - 1),
+            end: End::Never,
+        },
+        _ => Plan {
+            cycles: horizon,
+            end: End::Clear(horizon),
+        },
     }
 }
 
 // The answer for a case within the limits.
+#[tactic(auto, using(crate::proofs::Within::within_limits))]
 fn searched(case: Case, capacity: usize, work: &mut [i32]) -> Answer
     requires { InLimits case capacity (length work.old) }
-    ensures { (result ≡ answered (outcome (network case) capacity)) × (work.new ≡ replicate (length work.old) (pos 0)) }
+    ensures answer { result ≡ answered (outcome (network case) capacity) }
+    ensures workspace { work.new ≡ replicate (length work.old) (pos 0) }
 {
     let n = case.n;
     let count = memory::table_size(n);
     let size = memory::pattern_size(n);
-    let table = case.times;
-    let from = case.start;
-    let to = case.target;
-    let times = memory::times_in(table, count);
-    let start = memory::bounds_in(from, size);
-    let target = memory::bounds_in(to, size);
+    let times = memory::times_in(case.times, count);
+    let start = memory::bounds_in(case.start, size);
+    let target = memory::bounds_in(case.target, size);
     let times = &times[..count];
     let start = &start[..size];
     let target = &target[..size];
-    let free = memory::differences(start, target, n);
-    let repeated = powers::first_repeat(times, n);
-    let plan = plan_of(repeated, free, case.horizon);
-    let cycles = plan.cycles;
-    let end = plan.end;
-    let parts = judge::parts(case);
-    let answer = search::search(work, capacity, times, start, target, n, parts, cycles, end);
-    clear(work);
+    let differences = memory::differences(start, target, n);
+    let plan = plan_of(powers::first_repeat(times, n), differences, case.horizon);
+    let task = Task {
+        capacity,
+        n,
+        parts: judge::parts(case),
+        cycles: plan.cycles,
+        end: plan.end,
+        times,
+        start,
+        target,
+    };
+    let answer = search::search(work, task);
+    work.fill(0);
     answer
 }
 
 // The verdict on an unpacked case, with Z and the workspace.
+#[tactic(auto, using(crate::proofs::Answered::said), unfolding(model::specs::Answers::answer, model::specs::Answers::workspace_after))]
 pub fn verdict(case: Case, capacity: usize, work: &mut [i32]) -> Answer
     ensures { Given case capacity work.old result work.new }
 {
-    let size = work.len();
-    match judge::call_fault(case, capacity, size) {
-        Judged::Refused(fault) => search::plain(Verdict::Refused(fault)),
-        Judged::Accepted => searched(case, capacity, work),
-    }
+    judge::call_fault(case, capacity, work.len())?;
+    searched(case, capacity, work)
 }
 
 // The verdict on a packed case.
+#[tactic(auto, using(crate::proofs::Answered::packed_given), unfolding(model::specs::Answers::answer_packed, model::specs::Answers::workspace_after_packed))]
 pub fn verdict_packed(bytes: &[u8], capacity: usize, work: &mut [i32]) -> Answer
     ensures { PackedGiven bytes.now capacity work.old result work.new }
 {
-    let read = packed::read(bytes);
-    let judged = read.judged;
-    match judged {
-        Judged::Refused(fault) => search::plain(Verdict::Refused(fault)),
-        Judged::Accepted => {
-            let case = read.case;
-            verdict(case, capacity, work)
-        }
-    }
+    let case = packed::read(bytes)?;
+    verdict(case, capacity, work)
 }

@@ -1,31 +1,61 @@
 -- Rows of numbers: those of a zone, and one that is copied.
-use Prim.Native.Nat.{ℕ, zero, suc, ◌+◌, ◌*◌, ◌≤◌, ◌<◌}
+use Prim.Native.Nat.{ℕ, zero, suc, ◌+◌, ◌-◌, ◌*◌, ◌≤◌, ◌<◌}
 use native.Mathlib.Omega.{arith}
-use borrow.Author.Count.{below_more}
+use native.Mathlib.Nat.{mul-le-mul_right}
 use mathlib.Core.Path.{◌≡◌, refl, sym, ap, ◌∙◌}
-use mathlib.Core.List.{List, [], ◌∷◌}
+use mathlib.Core.List.{List, [], ◌∷◌, ◌++◌}
 use lib.IntN.{ℤ, pos}
-use lib.ListN.{length, get_or, set}
-use lib.Seq.{get_or-set_same, get_or-set_other}
+use lib.ListN.{length, take, drop, replicate, get_or, set, get_or-append, get_or-replicate, length-take, length-drop, length-append, length-replicate}
+use Rattle.std.proofs.lemmas.List.{get_or-take, get_or-drop, get_or-append_right}
 use mir.Syntax.{w32}
 use mir.Val.{SFits, to_z, of_z}
+use mir.ValLaws.{to_z-of_z}
 use Rattle.model.specs.Bound as B
-use Rattle.model.specs.Bound.{Bound}
+use Rattle.model.specs.Bound.{Bound, same_z}
 use Rattle.model.specs.Matrix.{Matrix, entry}
-use Rattle.memory.specs.Numbers.{bound_in, bounds_in}
+use Rattle.memory.specs.Numbers.{none_in, bound_in, bounds_in, bounds_mapped}
+use Rattle.memory.specs.Conditions.{ZoneIn}
+use Rattle.zones.specs.Inner.{room_of_row, RowIn}
 use Rattle.memory.specs.Matrices.{RowFilled}
-use Rattle.memory.proofs.Places.{get_d_bounds, bound_put}
+use Rattle.memory.proofs.Places.{get_d_bounds, put_of}
 
 -- the number of a zone at (i, j)
 pub entry_number : (m : ℕ) (z : List ℤ) (i j k : ℕ) → k ≡ i * m + j → k < length z → entry m (bounds_in z) i j ≡ bound_in (get_or z k (pos 0))
 unfolding entry
 entry_number m z i j k e h = rw (← e) (get_d_bounds z k h)
 
--- one number more of a row
-pub row_next : (f : ℕ → Bound) (row : List ℤ) (j : ℕ) (x : ℤ) → j < length row → ((l : ℕ) → l < j → bound_in (get_or row l (pos 0)) ≡ f l)
-    → bound_in x ≡ f j → (l : ℕ) → l < j + 1 → bound_in (get_or (set row j x) l (pos 0)) ≡ f l
-row_next f row j x h is e =
-    below_more _ j (λ l k. ap bound_in (get_or-set_other row j l x (pos 0) (λ s. omega arith)) ∙ is l k) (ap bound_in (get_or-set_same row j x (pos 0) h) ∙ e)
+-- a row that is copied, with blanks beyond it
+abbrev pub blanks : List ℤ
+blanks = replicate room_of_row (pos none_in)
+
+module _ {n b base : ℕ} (zone : List ℤ) (z : ZoneIn n zone) (hb : b < suc n) (here : base ≡ b * suc n) where
+  room : base + suc n ≤ length zone
+  room = omega (arith, z.size, mul-le-mul_right {m = b} {n = n} (suc n) (omega arith))
+
+  abbrev numbers : List ℤ
+  numbers = take (suc n) (drop base zone)
+
+  long : length numbers ≡ suc n
+  long = simp (length-take, length-drop) (omega (arith, room))
+
+  pub row_copied : RowIn n (bounds_in zone) b (numbers ++ drop (suc n) blanks)
+  unfolding bound_in same_z
+  row_copied = record {
+    size = simp (length-append, long, length-drop, length-replicate) (omega (arith, z.few));
+    is = λ j h.
+        rw (
+          get_or-append numbers (drop (suc n) blanks) (pos 0) j (omega (arith, long)),
+          get_or-take (suc n) (drop base zone) j (pos 0) h,
+          get_or-drop base zone j (pos 0),
+        )
+        (sym (entry_number (suc n) zone b j (base + j) (omega (arith, here)) (omega (arith, room))));
+    blank = λ j h g.
+        rw (
+          get_or-append_right numbers (drop (suc n) blanks) (suc n) j (pos 0) long h,
+          get_or-drop (suc n) blanks (j - suc n) (pos 0),
+          get_or-replicate room_of_row (suc n + (j - suc n)) (pos none_in) (pos 0) (omega arith),
+        );
+  }
 
 -- a row that is filled with what is the same
 pub row_same : {n : ℕ} {d₀ d : Matrix} {f g : ℕ → Bound} {i j : ℕ} → RowFilled n d₀ d f i j → ((l : ℕ) → l < suc n → f l ≡ g l) → RowFilled n d₀ d g i j
@@ -35,6 +65,10 @@ row_same p e = record { done = λ l h k. p.done l h k ∙ e l h; left = p.left; 
 pub row_past : {n : ℕ} {d₀ d : Matrix} {f : ℕ → Bound} {i j : ℕ} (k : ℕ) → RowFilled n d₀ d f i j → suc n ≤ j → suc n ≤ k → RowFilled n d₀ d f i k
 row_past k p h g = record { done = λ l q r. p.done l q (omega arith); left = λ l q r. absurd (omega arith); others = p.others }
 
+-- what is stored
+pub number_put : (z : List ℤ) (k : ℕ) (x : ℤ) (b : Bound) → SFits w32 x → bound_in x ≡ b → bounds_in (set z k (to_z w32 (of_z w32 x))) ≡ set (bounds_in z) k b
+number_put z k x b f e = rw (to_z-of_z w32 x f) (put_of bounds_mapped z k x e)
+
 -- a bound that is put where it stands
 set_back : (d : List Bound) (k : ℕ) → set d k (get_or d k B.Bound.none) ≡ d
 set_back [] k = refl
@@ -43,4 +77,4 @@ set_back (x ∷ d) (suc k) = ap (◌∷◌ x) (set_back d k)
 
 pub same_put : (z : List ℤ) (k : ℕ) (x : ℤ) → k < length z → SFits w32 x → bound_in x ≡ bound_in (get_or z k (pos 0))
     → bounds_in (set z k (to_z w32 (of_z w32 x))) ≡ bounds_in z
-same_put z k x h f e = bound_put z k x _ f (e ∙ sym (get_d_bounds z k h)) ∙ set_back (bounds_in z) k
+same_put z k x h f e = number_put z k x _ f (e ∙ sym (get_d_bounds z k h)) ∙ set_back (bounds_in z) k

@@ -1,28 +1,33 @@
 -- One number of a row and a sum: the smaller number stands for the tighter bound, since the greatest of 32 bits stands for none.
 use Prim.Native.Nat.{◌+◌, ◌≤◌, ◌<◌}
-use native.Mathlib.Omega.{arith}
 use mathlib.Core.Path.{◌≡◌, refl, ◌∙◌}
 use mathlib.Core.Bool.{Bool, true, false, cond}
-use lib.IntN.{ℤ, pos}
+use lib.IntN.{ℤ, pos, nat_abs, ◌+ℤ◌}
 use mir.Syntax.{w32, w64}
 use mir.Val.{SFits, to_z, of_z}
 use mir.ValLaws.{to_z-of_z}
-use Rattle.ints.proofs.Integers.{up, dn, ints, range, fits, pos_ud, abs_ud, nat_le_z, nat_gt_z}
+use Rattle.ints.proofs.Integers.{up, dn, ints, range, fits, add_ud, pos_ud, abs_ud, nat_le_z, nat_gt_z}
 use Rattle.model.specs.Bound as B
 use Rattle.model.specs.Bound.{Bound, same_z, tighter}
 use Rattle.model.specs.Conditions.{Small}
 use Rattle.model.proofs.Same.{same_z_true}
 use Rattle.memory.specs.Numbers.{of_halves, bound_in, none_in, Limit}
-use Rattle.memory.proofs.InHalves.{halves_size, tighter_halves}
-use Rattle.memory.proofs.Numbers.{bound_stored, narrow}
+use Rattle.zones.specs.Inner.{narrow_most}
+use Rattle.memory.proofs.InHalves.{both_odd, odd_one, halves_size, tighter_halves}
+use Rattle.memory.proofs.Numbers.{bound_stored, narrow, widened}
 
 -- ---- the bits of a number
-pub widened : {z : ℤ} → SFits w32 z → SFits w64 z
-widened f = fits (omega (arith, range f))
-
 -- read back from its bits, as a number of 64
 pub read_wide : (z : ℤ) → SFits w32 z → to_z w64 (of_z w64 (to_z w32 (of_z w32 z))) ≡ z
-read_wide z f = rw (to_z-of_z w32 z f) (to_z-of_z w64 z (widened f))
+read_wide z f = rw (to_z-of_z w32 z f) (to_z-of_z w64 z (widened z f))
+
+-- ---- a sum in 32 bits
+pub narrow_sums : (u v : ℤ) → nat_abs u ≤ narrow_most → nat_abs v ≤ narrow_most → SFits w32 (u +ℤ v) × SFits w32 ((u +ℤ v) +ℤ pos (both_odd u v))
+narrow_sums u v h k =
+    let o = both_odd u v in (
+      fits (omega (ints, abs_ud u, abs_ud v, add_ud u v)),
+      fits (omega (ints, abs_ud u, abs_ud v, add_ud u v, add_ud (u +ℤ v) (pos o), pos_ud o, odd_one u v)),
+    )
 
 -- ---- the two numbers
 module _ (old new : ℤ) (f : SFits w32 old) where

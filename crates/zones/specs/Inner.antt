@@ -1,5 +1,5 @@
 -- What the functions inside this crate require and ensure.
-use Rattle.std.specs.Prelude.{ℕ, suc, ◌+◌, ◌*◌, ◌≤◌, ◌<◌, ◌≡◌, Bool, true, ℤ, pos, nat_abs, length, get_or}
+use Rattle.std.specs.Prelude.{ℕ, suc, ◌+◌, ◌*◌, ◌≤◌, ◌<◌, ◌≡◌, Bool, true, ◌&&◌, cond, ltb, ℤ, pos, ◌-ℤ◌, nat_abs, length, get_or}
 use mathlib.Core.List.{List, [], ◌∷◌, flatten}
 use Rattle.ints.specs.declared.Seconds.{Seconds}
 use Rattle.model.specs.Sizes.{most_times_at_once}
@@ -7,15 +7,14 @@ use Rattle.model.specs.Lists.{tabulate}
 use Rattle.model.specs.Bound as B
 use Rattle.model.specs.Bound.{Bound, plus, tighter}
 use Rattle.model.specs.Matrix.{Matrix, entry, Constraint}
-use Rattle.model.specs.Network.{Time}
+use Rattle.model.specs.Network.{Time, time}
 use Rattle.model.specs.Pattern.{pair_bound}
-use Rattle.model.specs.Search.{chosen, attains, keeps}
+use Rattle.model.specs.Search.{chosen, slack, keeps}
 use Rattle.model.specs.Conditions.{Chosen, Cols, Small}
 use Rattle.memory.specs.Numbers.{of_halves, none_in, bound_in, bounds_in, times_in, Limit, InMemory}
 use Rattle.memory.specs.Conditions.{ZoneIn, TableIn, PatternIn}
 use Rattle.memory.specs.Matrices.{RowFilled, Relaxable, Takes}
 use Rattle.zones.specs.declared.Choice.{Choice}
-use Rattle.zones.specs.Conditions.{LimitMost}
 
 -- ---- the conditions on matrices, of a zone in memory
 -- row i of z' is f, and all else is as in z
@@ -65,9 +64,9 @@ pub record ColumnsOf (n i width size columns : ℕ) : Type 0 where
 abbrev pub beside : ℕ → List ℤ → List ℤ → ℕ → Bound → ℕ → Bound
 beside n z row i way j = tighter (entry (suc n) (bounds_in z) i j) (plus way (bound_in (get_or row j (pos 0))))
 
--- the most that a way is in size: a number in memory and a limit
+-- the most that a way is in size: a number in memory and a limit, which is a bound and two times
 abbrev pub WayMost : ℕ
-WayMost = InMemory + LimitMost
+WayMost = 4 * InMemory
 
 -- one number can take in the way by another
 pub record EntryReady (old rest way : ℤ) (narrow : Bool) : Type 0 where
@@ -118,34 +117,50 @@ pair_limit n b i j = record { row = i; col = j; limit = pair_bound n b i j }
 abbrev pub pair_row : ℕ → List Bound → ℕ → List Constraint
 pair_row n b i = tabulate (suc n) 0 (pair_limit n b i)
 
--- what column s adds in row i
-pub record Adds (n : ℕ) (times : List ℤ) (i s : ℕ) : Type 0 where
+-- what column s adds in row i; a is what the table stands for
+pub record Adding {A : Type 0} (n : ℕ) (times : List A) (a : List Time) (i s : ℕ) : Type 0 where
   pub table : TableIn n times
   pub row : i ≤ n
-  pub column : Chosen n (times_in times) i s
+  pub column : Chosen n a i s
 
-pub record Added (n : ℕ) (times : List ℤ) (i s : ℕ) (r : Seconds) : Type 0 where
-  pub is : r.0 ≡ chosen n (times_in times) i s
-  pub small : nat_abs r.0 ≤ InMemory
+abbrev pub Adds : ℕ → List ℤ → ℕ → ℕ → Type 0
+Adds n times i s = Adding n times (times_in times) i s
 
--- part can take in what a function adds
-pub record AttainReady (n : ℕ) (part times : List ℤ) (i s : ℕ) : Type 0 where
-  pub taking : Taking n part (attains n (times_in times) i s)
-  pub adds : Adds n times i s
+pub record AddedWithin (S n : ℕ) (a : List Time) (i s : ℕ) (r : Seconds) : Type 0 where
+  pub is : r.0 ≡ chosen n a i s
+  pub small : nat_abs r.0 ≤ S
+
+-- c for column s; where the first column counts, one less against an earlier column j
+unfoldable pub led : Bool → ℕ → ℕ → ℤ → ℤ
+led first j s c = cond (first && ltb j s) (c -ℤ pos 1) c
+
+-- in row i column s attains the largest sum, with others or as the first that does
+abbrev pub attained_by : Bool → ℕ → List Time → ℕ → ℕ → ℕ → Constraint
+attained_by first n a i s j = record { row = j; col = s; limit = slack (led first j s (chosen n a i s)) (time n a i j) }
+
+abbrev pub attains_by : Bool → ℕ → List Time → ℕ → ℕ → List Constraint
+attains_by first n a i s = tabulate n 1 (attained_by first n a i s)
+
+-- part, which stands for p, can take in what a function adds
+pub record AttainsReady {A : Type 0} (L n : ℕ) (p : Matrix) (times : List A) (a : List Time) (i s : ℕ) (first : Bool) : Type 0 where
+  pub taking : Takes n L p (attains_by first n a i s)
+  pub adds : Adding n times a i s
   pub from_one : 1 ≤ i
 
-pub record KeepReady (n : ℕ) (part times zone : List ℤ) (c e : Choice) (ks : List Constraint) : Type 0 where
-  pub taking : Taking n part ks
+pub record Keeping {A : Type 0} (L n : ℕ) (p : Matrix) (times : List A) (a : List Time) (zone : List A) (c e : Choice) (ks : List Constraint)
+    : Type 0 where
+  pub taking : Takes n L p ks
   pub source : ZoneIn n zone
-  pub adds : Adds n times c.row c.column
-  pub adds_other : Adds n times e.row e.column
+  pub adds : Adding n times a c.row c.column
+  pub adds_other : Adding n times a e.row e.column
 
-pub record ImagesReady (n : ℕ) (part times zone : List ℤ) (cols : List ℕ) (i s : ℕ) : Type 0 where
-  pub taking : Taking n part (images n (times_in times) (bounds_in zone) cols i s)
+pub record KeepsImages {A : Type 0} (L n : ℕ) (p : Matrix) (times : List A) (a : List Time) (zone : List A) (d : Matrix) (cols : List ℕ) (i s : ℕ)
+    : Type 0 where
+  pub taking : Takes n L p (images n a d cols i s)
   pub source : ZoneIn n zone
-  pub adds : Adds n times i s
+  pub adds : Adding n times a i s
   pub cols_size : i ≤ length cols
-  pub columns : Cols n (times_in times) cols i
+  pub columns : Cols n a cols i
 
 pub record PairRowReady (n : ℕ) (zone pattern : List ℤ) (i : ℕ) : Type 0 where
   pub taking : Taking n zone (pair_row n (bounds_in pattern) i)

@@ -1,23 +1,24 @@
 // Zones in memory: one more constraint in place, what a row of a preimage adds, what a zone has in common with a pattern.
 #![tactic(auto)]
 
-ghost use Rattle.std.specs.Prelude.{◌≡◌, true, suc, ◌≤◌, ◌<◌, nat_abs, length};
+ghost use Rattle.std.specs.Prelude.{◌≡◌, true, suc, ◌+◌, ◌*◌, ◌≤◌, ◌<◌, nat_abs, length};
+ghost use Rattle.std.proofs.Math.Option.{some};
 ghost use Rattle.model.specs.Sizes.{most_times_at_once, zone_size};
 ghost use Rattle.model.specs.Bound.{plus, tighter};
 ghost use Rattle.model.specs.Matrix.{diagonal, everything};
 ghost use Rattle.model.specs.Pattern.{pattern_constraints};
-ghost use Rattle.model.specs.Search.{attains, row_constraints};
+ghost use Rattle.model.specs.Search.{row_constraints};
 ghost use Rattle.model.specs.Conditions.{Small};
-ghost use Rattle.memory.specs.Numbers.{of_halves, bound_in, bounds_in, times_in, as_bound, Limit};
+ghost use Rattle.memory.specs.Numbers.{of_halves, bound_in, bounds_in, as_bound, Limit, Widest};
 ghost use Rattle.memory.specs.Conditions.{ZoneIn};
-ghost use Rattle.memory.specs.Matrices.{across, limited};
-ghost use Rattle.zones.specs.Conditions.{Taken, TakingOne, RowReady, CommonReady};
+ghost use Rattle.memory.specs.Matrices.{RowFilled, Relaxable, across, leaves, Left, limited, TakesOne, ConstrainReady};
+ghost use Rattle.zones.specs.Conditions.{Taken, RowsReady, CommonReady};
 ghost use Rattle.zones.specs.Inner.{narrow_most, Narrow, RowNarrow, room_of_row, RowIn, WidthOf, ColumnsOf, beside, EntryReady, EntriesReady};
-ghost use Rattle.zones.specs.Inner.{RowMade, RelaxReady, Adds, Added, keep_one, keep_both, images, pair_row};
-ghost use Rattle.zones.specs.Inner.{AttainReady, KeepReady, ImagesReady, PairRowReady};
+ghost use Rattle.zones.specs.Inner.{RowMade, RelaxReady, Adding, AddedWithin, led, attains_by, keep_one, keep_both, images, pair_row};
+ghost use Rattle.zones.specs.Inner.{AttainsReady, Keeping, KeepsImages, PairRowReady};
 
 use ints::{Seconds, ZERO};
-use memory::{Halves, NONE, Number, bound_at, diagonal, pair_bound, place, put, time_at};
+use memory::{Halves, NONE, Number, Stored, bound_at, diagonal, pair_bound, place, put, time_at};
 
 // The column of a row in a selection.
 #[derive(Clone, Copy)]
@@ -63,7 +64,7 @@ fn relaxed(old: i32, rest: i32, way: Halves, narrow: bool) -> i32
         let sum = narrow_sum(way.0 as i32, rest);
         return tighter(old, Halves(sum as i64));
     }
-    tighter(old, way.plus(Halves(rest as i64)))
+    tighter(old, way + Halves(rest as i64))
 }
 
 // Row i takes in what follows by way of row b, which is rest, place by place; way bounds x(i) - x(b). Beyond the row rest is blank, and
@@ -81,13 +82,8 @@ fn relax_entries(
     ensures { RowMade n zone.old zone.new (beside n zone.old rest.now i (of_halves way.0)) i }
 {
     let base = place(n + 1, i, 0);
-    let mut j = 0;
-    while j < columns {
-        let k = base + j;
-        let old = zone[k];
-        let number = rest[j];
-        zone[k] = relaxed(old, number, way, narrow);
-        j += 1;
+    for j in 0..columns {
+        zone[base + j] = relaxed(zone[base + j], rest[j], way, narrow);
     }
 }
 
@@ -103,30 +99,29 @@ fn columns_at(size: usize, n: usize, i: usize, width: usize) -> usize
     n + 1
 }
 
-// Row i takes in the way by row b, which is rest; narrow says that its numbers are. Where way is blank, or the zone bounds x(i) - x(b)
-// by it already, nothing follows, and the row is passed over.
-fn relax_row(
-    zone: &mut [i32],
-    n: usize,
-    i: usize,
-    b: usize,
+// A row that was copied: its numbers, how many of them are passed over, and whether those can be added in 32 bits.
+#[derive(Clone, Copy)]
+struct Rest<'a> {
+    numbers: &'a [i32],
     width: usize,
-    rest: &[i32],
     narrow: bool,
-    way: Number,
-)
-    requires { RelaxReady n zone.old rest.now i b width narrow (as_bound way) }
+}
+
+// Row i takes in the way by row b, which is rest. Where way is blank, or the zone bounds x(i) - x(b) by it already, nothing follows, and the row is passed
+// over.
+fn relax_row(zone: &mut [i32], n: usize, i: usize, b: usize, rest: Rest, way: Number)
+    requires { RelaxReady n zone.old rest.numbers.now i b rest.width rest.narrow (as_bound way) }
     ensures { RowMade n zone.old zone.new (across n (bounds_in zone.old) i b (as_bound way)) i }
 {
-    let Number::Upto(c) = way else {
+    let Some(c) = way.0 else {
         return;
     };
     if bound_at(zone, n, i, b).implies(c) {
         return;
     }
-    let columns = columns_at(zone.len(), n, i, width);
-    let size = Seconds(c.0);
-    relax_entries(zone, n, i, columns, rest, c, narrow & !size.beyond(NARROW))
+    let columns = columns_at(zone.len(), n, i, rest.width);
+    let narrow = rest.narrow & !Seconds(c.0).beyond(NARROW);
+    relax_entries(zone, n, i, columns, rest.numbers, c, narrow)
 }
 
 // The columns of a row, and so many more that they are a multiple of eight.
@@ -142,13 +137,9 @@ fn row_of(zone: &[i32], n: usize, b: usize) -> [i32; ROW]
     requires { ZoneIn n zone.now × (b < suc n) }
     ensures { RowIn n (bounds_in zone.now) b result }
 {
+    let base = place(n + 1, b, 0);
     let mut row = [NONE; ROW];
-    let mut j = 0;
-    while j <= n {
-        let k = place(n + 1, b, j);
-        row[j] = zone[k];
-        j += 1;
-    }
+    row[..n + 1].copy_from_slice(&zone[base..base + n + 1]);
     row
 }
 
@@ -159,7 +150,7 @@ fn is_narrow(raw: i32) -> bool
     if raw == NONE {
         return true;
     }
-    !Seconds::of(raw).beyond(NARROW)
+    !Seconds::from(raw).beyond(NARROW)
 }
 
 // So does each of the first numbers of a row.
@@ -168,178 +159,235 @@ fn all_narrow(row: &[i32], count: usize) -> bool
     ensures { result ≡ true → RowNarrow count row.now }
 {
     let mut all = true;
-    let mut j = 0;
-    while j < count {
-        let raw = row[j];
-        all = all & is_narrow(raw);
-        j += 1;
+    for raw in &row[..count] {
+        all = all & is_narrow(*raw);
     }
     all
 }
 
-// One more constraint, in place: x(a) - x(b) is within c. False where no times are left. Row b is not changed
-// by the loop, since the way round, from b to a and back by c, is not negative: it is copied before.
-fn constrain(zone: &mut [i32], n: usize, a: usize, b: usize, c: Halves) -> bool
-    requires { TakingOne n zone.old a b (of_halves c.0) }
-    ensures { Taken n zone.old (limited a b (of_halves c.0)) result zone.new }
+// Row i takes in what follows by way of row b, place by place; way bounds x(i) - x(b).
+fn across_entries<T: Stored>(zone: &mut [T], n: usize, i: usize, b: usize, way: Number)
+    requires { Relaxable n T.limit (4 * T.largest) zone.old (T.bounds_in zone.old) i b (as_bound way) }
+    ensures { RowFilled n (T.bounds_in zone.old) (T.bounds_in zone.new) (across n (T.bounds_in zone.old) i b (as_bound way)) i (suc n) }
 {
-    let limit = Number::Upto(c);
-    let around = bound_at(zone, n, b, a).plus(limit);
-    if around.negative() {
-        return false;
+    for j in 0..n + 1 {
+        let new = bound_at(zone, n, i, j).tighter(way + bound_at(zone, n, b, j));
+        put(zone, n, i, j, new);
     }
-    let rest = row_of(zone, n, b);
-    let width = width_of(n);
-    let narrow = all_narrow(&rest, width);
-    let mut i = 0;
-    while i <= n {
-        let way = bound_at(zone, n, i, a).plus(limit);
-        relax_row(zone, n, i, b, width, &rest, narrow, way);
-        i += 1;
-    }
-    true
 }
 
-// The same, with a limit that may be blank. What the zone implies already changes nothing. The zone may be of two times for each departure.
-pub fn take_in(zone: &mut [i32], n: usize, a: usize, b: usize, limit: Number) -> bool
-    requires { TakingOne n zone.old a b (as_bound limit) }
-    ensures { Taken n zone.old (limited a b (as_bound limit)) result zone.new }
+// The same. Where way is blank, or the zone bounds x(i) - x(b) by it already, nothing follows, and the row is passed over.
+fn across_row<T: Stored>(zone: &mut [T], n: usize, i: usize, b: usize, way: Number)
+    requires { Relaxable n T.limit (4 * T.largest) zone.old (T.bounds_in zone.old) i b (as_bound way) }
+    ensures { RowFilled n (T.bounds_in zone.old) (T.bounds_in zone.new) (across n (T.bounds_in zone.old) i b (as_bound way)) i (suc n) }
 {
-    let Number::Upto(c) = limit else {
+    let Some(c) = way.0 else {
+        return;
+    };
+    if bound_at(zone, n, i, b).implies(c) {
+        return;
+    }
+    across_entries(zone, n, i, b, way)
+}
+
+// How numbers of a width take in one more constraint.
+pub trait Constrained: Stored {
+    // In place: x(a) - x(b) is within c. Some times are left, so the way round, from b to a and back by c, is not negative, and row b stays.
+    fn constrain(zone: &mut [Self], n: usize, a: usize, b: usize, c: Halves)
+        requires { ConstrainReady n Self.limit (3 * Self.largest) (Self.bounds_in zone.old) a b (of_halves c.0) }
+        ensures { leaves n (Self.bounds_in zone.old) (limited a b (of_halves c.0)) ≡ some (Self.bounds_in zone.new) };
+}
+
+// Row b is copied before, and the rows take it in by vectors.
+impl Constrained for i32 {
+    fn constrain(zone: &mut [i32], n: usize, a: usize, b: usize, c: Halves) {
+        let row = row_of(zone, n, b);
+        let width = width_of(n);
+        let rest = Rest {
+            numbers: &row,
+            width,
+            narrow: all_narrow(&row, width),
+        };
+        for i in 0..n + 1 {
+            let way = bound_at(zone, n, i, a) + Number(Some(c));
+            relax_row(zone, n, i, b, rest, way);
+        }
+    }
+}
+
+impl Constrained for i64 {
+    fn constrain(zone: &mut [i64], n: usize, a: usize, b: usize, c: Halves) {
+        for i in 0..n + 1 {
+            let way = bound_at(zone, n, i, a) + Number(Some(c));
+            across_row(zone, n, i, b, way);
+        }
+    }
+}
+
+// One more constraint, in place: x(a) - x(b) is within limit, which may be blank. False where no times are left, and then what stands in zone is free. What
+// the zone implies already changes nothing. The zone may be of two times for each departure.
+pub fn take_in<T: Constrained>(zone: &mut [T], n: usize, a: usize, b: usize, limit: Number) -> bool
+    requires { TakesOne n T.limit (3 * T.largest) (T.bounds_in zone.old) a b (as_bound limit) }
+    ensures { Left (leaves n (T.bounds_in zone.old) (limited a b (as_bound limit))) result (T.bounds_in zone.new) }
+{
+    let Some(c) = limit.0 else {
         return true;
     };
     if bound_at(zone, n, a, b).implies(c) {
         return true;
     }
-    constrain(zone, n, a, b, c)
+    let around = bound_at(zone, n, b, a) + limit;
+    if around.negative() {
+        return false;
+    }
+    T::constrain(zone, n, a, b, c);
+    true
 }
 
 // Row i of the zone of all times.
-fn open_row(zone: &mut [i32], n: usize, i: usize)
+fn open_row<T: Stored>(zone: &mut [T], n: usize, i: usize)
     requires { ZoneIn n zone.old × (i < suc n) }
-    ensures { RowMade n zone.old zone.new (diagonal i) i }
+    ensures { RowFilled n (T.bounds_in zone.old) (T.bounds_in zone.new) (diagonal i) i (suc n) }
 {
-    let mut j = 0;
-    while j <= n {
-        let d = diagonal(i, j);
-        put(zone, n, i, j, d);
-        j += 1;
+    for j in 0..n + 1 {
+        put(zone, n, i, j, diagonal(i, j));
     }
 }
 
 // The zone of all times.
-pub fn everything(zone: &mut [i32], n: usize)
+pub fn everything<T: Stored>(zone: &mut [T], n: usize)
     requires { ZoneIn n zone.old }
-    ensures { bounds_in zone.new ≡ everything (suc n) }
+    ensures { T.bounds_in zone.new ≡ everything (suc n) }
 {
-    let mut i = 0;
-    while i <= n {
+    for i in 0..n + 1 {
         open_row(zone, n, i);
-        i += 1;
     }
 }
 
 // What column s adds in row i. The clock, as row 0, adds 0.
-pub fn chosen(times: &[i32], n: usize, i: usize, s: usize) -> Seconds
-    requires { Adds n times.now i s }
-    ensures { Added n times.now i s result }
+pub fn chosen<T: Stored>(times: &[T], n: usize, i: usize, s: usize) -> Seconds
+    requires { Adding n times.now (T.times_in times.now) i s }
+    ensures { AddedWithin T.largest n (T.times_in times.now) i s result }
 {
     if i == 0 {
         return ZERO;
     }
-    time_at(times, n, i, s).value
+    time_at(times, n, i, s).unwrap_or(ZERO)
 }
 
-// In row i column s attains the largest sum, ties included.
-fn attain(part: &mut [i32], times: &[i32], n: usize, i: usize, s: usize) -> bool
-    requires { AttainReady n part.old times.now i s }
-    ensures { Taken n part.old (attains n (times_in times.now) i s) result part.new }
+// What column s adds, against column j: where the first column counts, one less against an earlier one, which then attains less.
+fn lead(first: bool, j: usize, s: usize, c: Seconds) -> Seconds
+    requires { nat_abs c.0 ≤ Widest }
+    ensures { (result.0 ≡ led first j s c.0) × (nat_abs result.0 ≤ suc (nat_abs c.0)) }
+{
+    let earlier = j < s;
+    if first && earlier {
+        return Seconds(c.0 - 1);
+    }
+    c
+}
+
+// In row i column s attains the largest sum: with others, or as the first that does.
+pub fn attain<T: Constrained>(
+    part: &mut [T],
+    times: &[T],
+    n: usize,
+    i: usize,
+    s: usize,
+    first: bool,
+) -> bool
+    requires { AttainsReady T.limit n (T.bounds_in part.old) times.now (T.times_in times.now) i s first }
+    ensures { Left (leaves n (T.bounds_in part.old) (attains_by first n (T.times_in times.now) i s)) result (T.bounds_in part.new) }
 {
     let c = chosen(times, n, i, s);
-    let mut j = 1;
-    while j <= n {
-        let limit = Number::slack(c, time_at(times, n, i, j));
+    for j in 1..n + 1 {
+        let limit = Number::slack(lead(first, j, s, c), time_at(times, n, i, j));
         if !take_in(part, n, j, s, limit) {
             return false;
         }
-        j += 1;
     }
     true
 }
 
+// The zone in which images by a table are to be, of n departures.
+#[derive(Clone, Copy)]
+struct Target<'a, T> {
+    times: &'a [T],
+    zone: &'a [T],
+    n: usize,
+}
+
 // The image of a.row less that of b.row keeps to the zone; where the zone has no bound there, nothing is asked.
-fn keep_one(part: &mut [i32], times: &[i32], zone: &[i32], n: usize, a: Choice, b: Choice) -> bool
-    requires { KeepReady n part.old times.now zone.now a b (keep_one n (times_in times.now) (bounds_in zone.now) a b) }
-    ensures { Taken n part.old (keep_one n (times_in times.now) (bounds_in zone.now) a b) result part.new }
+fn keep_one<T: Constrained>(part: &mut [T], target: Target<T>, a: Choice, b: Choice) -> bool
+    requires { Keeping T.limit target.n (T.bounds_in part.old) target.times.now (T.times_in target.times.now) target.zone.now a b
+        (keep_one target.n (T.times_in target.times.now) (T.bounds_in target.zone.now) a b) }
+    ensures { let t = target.entry in
+        Left (leaves t.n (T.bounds_in part.old) (keep_one t.n (T.times_in t.times.now) (T.bounds_in t.zone.now) a b)) result (T.bounds_in part.new) }
 {
-    let near = bound_at(zone, n, a.row, b.row);
-    if let Number::Blank = near {
+    let near = bound_at(target.zone, target.n, a.row, b.row);
+    if near.0.is_none() {
         return true;
     }
     let apart = Number::difference(
-        chosen(times, n, b.row, b.column),
-        chosen(times, n, a.row, a.column),
+        chosen(target.times, target.n, b.row, b.column),
+        chosen(target.times, target.n, a.row, a.column),
     );
-    take_in(part, n, a.column, b.column, near.plus(apart))
+    take_in(part, target.n, a.column, b.column, near + apart)
 }
 
 // Both ways.
-fn keep_both(part: &mut [i32], times: &[i32], zone: &[i32], n: usize, a: Choice, b: Choice) -> bool
-    requires { KeepReady n part.old times.now zone.now a b (keep_both n (times_in times.now) (bounds_in zone.now) a b) }
-    ensures { Taken n part.old (keep_both n (times_in times.now) (bounds_in zone.now) a b) result part.new }
+fn keep_both<T: Constrained>(part: &mut [T], target: Target<T>, a: Choice, b: Choice) -> bool
+    requires { Keeping T.limit target.n (T.bounds_in part.old) target.times.now (T.times_in target.times.now) target.zone.now a b
+        (keep_both target.n (T.times_in target.times.now) (T.bounds_in target.zone.now) a b) }
+    ensures { let t = target.entry in
+        Left (leaves t.n (T.bounds_in part.old) (keep_both t.n (T.times_in t.times.now) (T.bounds_in t.zone.now) a b)) result (T.bounds_in part.new) }
 {
-    if !keep_one(part, times, zone, n, a, b) {
-        return false;
-    }
-    keep_one(part, times, zone, n, b, a)
+    keep_one(part, target, a, b) && keep_one(part, target, b, a)
 }
 
 // The images of row i and of each row before keep to the zone.
-fn keep_images(
-    part: &mut [i32],
-    times: &[i32],
-    zone: &[i32],
+pub fn keep_images<T: Constrained>(
+    part: &mut [T],
+    times: &[T],
+    zone: &[T],
     cols: &[usize],
     n: usize,
     i: usize,
     s: usize,
 ) -> bool
-    requires { ImagesReady n part.old times.now zone.now cols.now i s }
-    ensures { Taken n part.old (images n (times_in times.now) (bounds_in zone.now) cols.now i s)
-        result part.new }
+    requires { KeepsImages T.limit n (T.bounds_in part.old) times.now (T.times_in times.now) zone.now (T.bounds_in zone.now) cols.now i s }
+    ensures { Left (leaves n (T.bounds_in part.old) (images n (T.times_in times.now) (T.bounds_in zone.now) cols.now i s)) result (T.bounds_in part.new) }
 {
+    let target = Target { times, zone, n };
     let last = Choice { row: i, column: s };
-    let mut l = 0;
-    while l < i {
-        let t = cols[l];
-        let earlier = Choice { row: l, column: t };
-        if !keep_both(part, times, zone, n, last, earlier) {
+    for l in 0..i {
+        let earlier = Choice {
+            row: l,
+            column: cols[l],
+        };
+        if !keep_both(part, target, last, earlier) {
             return false;
         }
-        l += 1;
     }
     true
 }
 
 // Adds to part what row i adds with column s for the preimage of zone; cols holds the columns of rows 0 to i - 1.
 // False where no times are left, and then what stands in part is free.
-pub fn add_row(
-    part: &mut [i32],
-    times: &[i32],
-    zone: &[i32],
+pub fn add_row<T: Constrained>(
+    part: &mut [T],
+    times: &[T],
+    zone: &[T],
     cols: &[usize],
     n: usize,
     i: usize,
     s: usize,
 ) -> bool
-    requires { RowReady n part.old times.now zone.now cols.now i s }
-    ensures { Taken n part.old (row_constraints n (times_in times.now) (bounds_in zone.now) cols.now i s)
-        result part.new }
+    requires { RowsReady T.limit n part.old (T.bounds_in part.old) times.now (T.times_in times.now) zone.now (T.bounds_in zone.now) cols.now i s }
+    ensures { Left (leaves n (T.bounds_in part.old) (row_constraints n (T.times_in times.now) (T.bounds_in zone.now) cols.now i s))
+        result (T.bounds_in part.new) }
 {
-    if !attain(part, times, n, i, s) {
-        return false;
-    }
-    keep_images(part, times, zone, cols, n, i, s)
+    attain(part, times, n, i, s, false) && keep_images(part, times, zone, cols, n, i, s)
 }
 
 // Takes in what a pattern says of x(i) - x(j), for each j.
@@ -347,13 +395,10 @@ fn common_row(zone: &mut [i32], pattern: &[i32], n: usize, i: usize) -> bool
     requires { PairRowReady n zone.old pattern.now i }
     ensures { Taken n zone.old (pair_row n (bounds_in pattern.now) i) result zone.new }
 {
-    let mut j = 0;
-    while j <= n {
-        let limit = pair_bound(pattern, n, i, j);
-        if !take_in(zone, n, i, j, limit) {
+    for j in 0..n + 1 {
+        if !take_in(zone, n, i, j, pair_bound(pattern, n, i, j)) {
             return false;
         }
-        j += 1;
     }
     true
 }
@@ -363,12 +408,10 @@ pub fn common(zone: &mut [i32], pattern: &[i32], n: usize) -> bool
     requires { CommonReady n zone.old pattern.now }
     ensures { Taken n zone.old (pattern_constraints n (bounds_in pattern.now)) result zone.new }
 {
-    let mut i = 0;
-    while i <= n {
+    for i in 0..n + 1 {
         if !common_row(zone, pattern, n, i) {
             return false;
         }
-        i += 1;
     }
     true
 }

@@ -10,23 +10,23 @@ descend-loop-s-init t c = going_start c.requires _
 
 pub descend-try_column-requires : goal.descend-try_column-requires
 descend-try_column-requires t c =
-    (omega (arith, c.decreases), going_ready c.requires _ c.loop-s.invariant c.loop-s-test.true)
+    (omega (arith, c.decreases), going_ready c.requires _ c.loop-s.invariant (omega arith))
 
 pub descend-returns-in-Found : goal.descend-returns-in-Found
 descend-returns-in-Found t c =
-    going_found c.requires _ c.loop-s.invariant c.loop-s-test.true c.try_column.ensures (sym c.in-Found.is)
+    going_found c.requires _ c.loop-s.invariant (omega arith) c.try_column.ensures (sym c.in-Found.is)
 
 pub descend-returns-in-Spent : goal.descend-returns-in-Spent
 descend-returns-in-Spent t c =
-    going_spent c.requires _ c.loop-s.invariant c.loop-s-test.true c.try_column.ensures (sym c.in-Spent.is)
+    going_spent c.requires _ c.loop-s.invariant (omega arith) c.try_column.ensures (sym c.in-Spent.is)
 
 pub descend-loop-s-preserved : goal.descend-loop-s-preserved
 descend-loop-s-preserved t c =
-    going_on c.requires _ c.loop-s.invariant c.loop-s-test.true c.try_column.ensures (sym c.in-Missed.is)
+    going_on c.requires _ c.loop-s.invariant (omega arith) c.try_column.ensures (sym c.in-Missed.is)
     c.try_column.auto.sets c.try_column.auto.cols
 
 pub descend-returns : goal.descend-returns
-descend-returns t c = going_done c.requires _ c.loop-s.invariant c.loop-s-test.false
+descend-returns t c = going_done c.requires _ c.loop-s.invariant (omega arith)
 
 -- ---- a column
 pub try_column-returns-then-not-holds_time : goal.try_column-returns-then-not-holds_time

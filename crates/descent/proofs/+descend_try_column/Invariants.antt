@@ -15,6 +15,3 @@ decreases-try_column l = rows l.n l.i
 
 abbrev pub invariant-descend-loop-s : goal.invariant-descend-loop-s
 invariant-descend-loop-s l = Going l.n l.table l.zone l.fn.sets l.fn.cols l.i l.steps l.sets l.cols l.left l.s
-
-abbrev pub decreases-descend-loop-s : goal.decreases-descend-loop-s
-decreases-descend-loop-s l = suc l.n - l.s

@@ -8,14 +8,12 @@ abbrev steps : ℕ → ℕ → ℕ
 steps n i = (suc n - i) + (suc n - i)
 
 abbrev pub decreases-select : goal.decreases-select
-decreases-select l = suc (steps l.n l.i)
+decreases-select l = suc (steps l.pull.n l.i)
 
 abbrev pub decreases-take_column : goal.decreases-take_column
-decreases-take_column l = steps l.n l.i
+decreases-take_column l = steps l.pull.n l.i
 
 abbrev pub invariant-select-loop-s : goal.invariant-select-loop-s
 invariant-select-loop-s l =
-    Going l.n l.count l.fn.list l.times l.zone l.fn.seen l.fn.counts l.fn.cols l.i l.capacity l.list l.seen l.counts l.cols l.built l.s
-
-abbrev pub decreases-select-loop-s : goal.decreases-select-loop-s
-decreases-select-loop-s l = suc l.n - l.s
+    Going l.pull.n l.count l.fn.list l.pull.times.now l.pull.zone.now l.fn.seen l.fn.path.counts l.fn.path.cols l.i l.pull.capacity
+    l.list l.seen l.path.counts l.path.cols l.so_far l.s

@@ -2,18 +2,20 @@
 use Prim.Native.Nat.{ℕ, ◌+◌, ◌*◌, ◌-◌, ◌≤◌, ◌<◌}
 use native.Mathlib.Omega.{arith}
 use mathlib.Core.Path.{◌≡◌}
+use mathlib.Core.Bool.{Bool}
 use mathlib.Core.List.{List}
 use lib.IntN.{ℤ}
-use lib.ListN.{length}
+use lib.ListN.{length, take}
 use lib.Seq.{paste}
 use Rattle.model.specs.Sizes.{zone_size}
 use Rattle.model.specs.Conditions.{Departures, Column}
-use Rattle.memory.specs.Numbers.{times_in}
+use Rattle.memory.specs.Numbers.{bounds_in, times_in}
 use Rattle.memory.specs.Side.{numbers_at, Elsewhere}
 use Rattle.lists.specs.Lists.{zone_at}
 use Rattle.lists.specs.Met.{free_at}
-use Rattle.lists.specs.Inner.{AddReady, parent_in, Underway}
-use Rattle.memory.proofs.Side.{length_numbers, stored_else}
+use Rattle.lists.specs.Selecting.{with_column}
+use Rattle.lists.specs.Inner.{PlacedAt, AddReady, parent_in, Underway, left_of}
+use Rattle.memory.proofs.Side.{length_numbers, stored_else, else_trans}
 use Rattle.lists.proofs.places.Zones.{stored_at}
 use Rattle.lists.proofs.met.Seen.{free_fits, free_later}
 
@@ -48,6 +50,14 @@ module _ {n : ℕ} {times zone seen : List ℤ} {counts cols : List ℕ} {i : �
     pub copied_at : zone_at (zone_size n) copied k ≡ parent_in n seen counts i
     unfolding zone_at
     copied_at = stored_at (zone_size n) k list parent long inside
+
+    -- and what a column leaves of it there
+    pub added_left : (s : ℕ) {list' : List ℤ} {r : Bool} {list'' : List ℤ} → list' ≡ copied
+        → PlacedAt (zone_size n) k (with_column n (times_in times) (bounds_in zone) (zone_at (zone_size n) list' k) (take i cols) i s) list' r list''
+        → PlacedAt (zone_size n) k (left_of n times zone seen counts cols i s) list r list''
+    added_left s {list'} e p =
+        let there : zone_at (zone_size n) list' k ≡ parent_in n seen counts i = rw e copied_at in
+        record { elsewhere = else_trans (rw e copied_else) p.elsewhere; left = rw there at p.left }
 
   -- can take in what a column adds
   pub add_ready : {list : List ℤ} (k : ℕ) {s : ℕ} → k * zone_size n + zone_size n ≤ length list → zone_at (zone_size n) list k ≡ parent_in n seen counts i

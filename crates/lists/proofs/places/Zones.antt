@@ -10,37 +10,26 @@ use lib.IntN.{ℤ, pos}
 use lib.ListN.{length, take, drop, get_or}
 use lib.Seq.{get_or-take, get_or-drop, ext_get_or}
 use lib.Seq.{paste}
-use lib.Dec.{eqb}
-use borrow.Author.Tests.{eqb-true, eq-eqb}
 use mir.Syntax.{Width}
 use mir.Val.{SFits, to_z, of_z}
 use mir.ValLaws.{to_z-of_z}
-use Rattle.ints.proofs.Integers.{impossible}
 use Rattle.model.specs.Lists.{tabulate, any_of}
 use Rattle.model.specs.Bound as B
 use Rattle.model.specs.Bound.{same_z}
 use Rattle.model.specs.Matrix.{Matrix, same_matrix}
 use Rattle.model.proofs.Tabulated.{tabulate_ext, tabulate_snoc}
-use Rattle.model.proofs.Same.{same_z_true, same_z_refl, same_matrix_true, same_matrix_refl}
+use Rattle.model.proofs.Same.{same_z_true, same_matrix_true, same_matrix_refl}
 use Rattle.memory.specs.Numbers.{none_in, of_halves, bound_in, bounds_in}
 use Rattle.memory.proofs.InHalves.{same_number, not_none}
 use Rattle.memory.proofs.Places.{get_d_bounds}
 use Rattle.memory.specs.Side.{numbers_at, Elsewhere}
 use Rattle.memory.proofs.Side.{length_numbers, part_of_lem, beyond_same, stored_numbers}
 use Rattle.lists.specs.Lists.{zone_at, list_in}
-use Rattle.lists.specs.Comparing.{Comparing, same_at, Other}
+use Rattle.lists.specs.Comparing.{Comparing}
 
 -- ---- equal numbers
-same_test : (s t : Bool) → (s ≡ true → t ≡ true) → (t ≡ true → s ≡ true) → s ≡ t
-same_test true t f g = sym (f refl)
-same_test false true f g = g refl
-same_test false false f g = refl
-
--- equal bits are equal numbers
-pub equal_bits : (w : Width) (a b : ℤ) → SFits w a → SFits w b → eqb (of_z w a) (of_z w b) ≡ same_z a b
-equal_bits w a b f g = same_test _ _
-    (λ e. let same : a ≡ b = sym (to_z-of_z w a f) ∙ ap (to_z w) (eqb-true (of_z w a) (of_z w b) e) ∙ to_z-of_z w b g in rw same (same_z_refl b))
-    (λ e. eq-eqb (of_z w a) (of_z w b) (ap (of_z w) (same_z_true a b e)))
+pub same_bits : (w : Width) {a b : ℤ} → SFits w a → SFits w b → of_z w a ≡ of_z w b → a ≡ b
+same_bits w {a} {b} f g e = sym (to_z-of_z w a f) ∙ ap (to_z w) e ∙ to_z-of_z w b g
 
 -- equal bounds are equal numbers
 bound_in_injective : (a b : ℤ) → bound_in a ≡ bound_in b → a ≡ b
@@ -57,15 +46,9 @@ bound_in_injective a b e = go (same_z a (pos none_in)) (same_z b (pos none_in)) 
 -- ---- the numbers of a zone against those at place k
 -- the first p are the same
 abbrev pub SameUpto : ℕ → List ℤ → ℕ → List ℤ → ℕ → Type 0
-SameUpto size list k zone p = (q : ℕ) → q < p → same_at size list k zone q ≡ true
+SameUpto size list k zone p = (q : ℕ) → q < p → get_or zone q (pos 0) ≡ get_or list (k * size + q) (pos 0)
 
 module _ {list : List ℤ} {k : ℕ} {zone : List ℤ} {size : ℕ} (c : Comparing list k zone size) where
-  pub same_more : {p : ℕ} → SameUpto size list k zone p → same_at size list k zone p ≡ true → SameUpto size list k zone (p + 1)
-  same_more {p} same e q u = elim (ℕ_discrete q p) [
-    | yes is ↦ rw is e
-    | no less ↦ same q (omega arith)
-  ]
-
   abbrev there : List ℤ
   there = numbers_at size list k
 
@@ -75,16 +58,16 @@ module _ {list : List ℤ} {k : ℕ} {zone : List ℤ} {size : ℕ} (c : Compari
   get_d_there : (p : ℕ) → p < size → get_or there p (pos 0) ≡ get_or list (k * size + p) (pos 0)
   get_d_there p h = get_or-take size (drop (k * size) list) p (pos 0) h ∙ get_or-drop (k * size) list p (pos 0)
 
-  all_same : SameUpto size list k zone size → same_matrix (bounds_in zone) (zone_at size list k) ≡ true
+  pub all_same : SameUpto size list k zone size → same_matrix (bounds_in zone) (zone_at size list k) ≡ true
   unfolding zone_at
   all_same same =
       let fits = c.fits in
-      let long : length zone ≡ length there = fits ∙ sym there_long in
-      let is : zone ≡ there = ext_get_or (pos 0) zone there long (λ q u.
-      same_z_true _ _ (same q (omega arith)) ∙ sym (get_d_there q (omega arith))) in
+      let is : zone ≡ there = ext_get_or (pos 0) zone there (fits ∙ sym there_long) (λ q u.
+      same q (omega arith) ∙ sym (get_d_there q (omega arith))) in
       rw is (same_matrix_refl (bounds_in there))
 
-  one_other : (p : ℕ) → p < size → same_at size list k zone p ≡ false → same_matrix (bounds_in zone) (zone_at size list k) ≡ false
+  pub one_other : (p : ℕ) → p < size → (get_or zone p (pos 0) ≡ get_or list (k * size + p) (pos 0) → ⊥)
+      → same_matrix (bounds_in zone) (zone_at size list k) ≡ false
   unfolding zone_at
   one_other p h other = go (same_matrix (bounds_in zone) (bounds_in there)) refl
     where
@@ -94,16 +77,7 @@ module _ {list : List ℤ} {k : ℕ} {zone : List ℤ} {size : ℕ} (c : Compari
           let fits = c.fits in
           let bound = ap (λ (m : Matrix). get_or m p B.Bound.none) (same_matrix_true _ _ e) in
           let in_memory = sym (get_d_bounds zone p (omega arith)) ∙ bound ∙ get_d_bounds there p (omega (arith, there_long)) in
-          let is : get_or zone p (pos 0) ≡ get_or list (k * size + p) (pos 0) = bound_in_injective _ _ in_memory ∙ get_d_there p h in
-          let true-too : same_at size list k zone p ≡ true = rw is (same_z_refl _) in
-          impossible cc
-
-  -- a place at which they differ, or none
-  pub other_place : {r : ℕ} → r < size → same_at size list k zone r ≡ false → Other size list k zone r
-  other_place {r} h e = record { to = omega arith; same = λ is. absurd (omega arith); other = λ u. one_other r h e }
-
-  pub no_other : SameUpto size list k zone size → Other size list k zone size
-  no_other same = record { to = omega arith; same = λ is. all_same same; other = λ u. absurd (omega arith) }
+          absurd (other (bound_in_injective _ _ in_memory ∙ get_d_there p h))
 
 -- one of them passes the test
 pub any_found : {X : Type 0} (t : X → Bool) (f : ℕ → X) (m first k : ℕ) → first ≤ k → k < m + first → t (f k) ≡ true → any_of t (tabulate m first f) ≡ true

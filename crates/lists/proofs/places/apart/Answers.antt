@@ -1,14 +1,11 @@
 -- The two numbers at place p.
-use Rattle.std.proofs.Common.{sym, ap₂, ◌∙◌, arith}
-use borrow.Author.Tests.{not-true}
+use borrow.Author.Tests.{eqb-false, not-true}
+use mathlib.Core.Path.{ap}
 use mir.Syntax.{w32}
-use mir.ValLaws.{to_z-of_z}
-use Rattle.model.specs.Bound.{same_z}
-use Rattle.lists.proofs.places.Zones.{other_place}
+use mir.Val.{of_z}
+use Rattle.lists.proofs.places.Zones.{one_other}
 use Rattle.lists.proofs.places.apart.Goals as goal
 
-pub returns : goal.returns
-returns c e =
-    let differ = not-true c.equal.result e in
-    let numbers = ap₂ same_z (to_z-of_z w32 _ (record { sfits = c.a-1.given })) (to_z-of_z w32 _ (record { sfits = c.b-1.given })) in
-    (other_place c.requires (omega arith) (sym (c.equal.ensures ∙ numbers) ∙ differ)).other (omega arith)
+pub returns-then-p-size : goal.returns-then-p-size
+returns-then-p-size c e =
+    one_other c.requires c.args.p c.if-p-size.true (λ same. eqb-false _ _ (not-true _ e) (ap (of_z w32) same))

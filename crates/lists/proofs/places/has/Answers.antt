@@ -1,11 +1,15 @@
 -- Zone by zone, the last first: none of those behind is this one.
-use Rattle.std.proofs.Common.{◌≡◌, sym, ap, ◌∙◌, ℕ, ◌+◌, ◌-◌, ◌≤◌, false, List, arith}
+use native.Mathlib.Omega.{arith}
+use Prim.Native.Nat.{ℕ, ◌+◌, ◌-◌, ◌≤◌}
+use mathlib.Core.Path.{◌≡◌, sym, ap}
+use mathlib.Core.Bool.{false}
+use mathlib.Core.List.{List}
 use lib.IntN.{ℤ}
 use Rattle.model.specs.Lists.{any_of}
 use Rattle.model.specs.Matrix.{same_matrix}
+use Rattle.model.proofs.Tabulated.{from, from_next, from_end}
 use Rattle.memory.specs.Numbers.{bounds_in}
 use Rattle.lists.specs.Lists.{zone_at}
-use Rattle.model.proofs.Tabulated.{from, from_next, from_end}
 use Rattle.lists.proofs.places.Zones.{any_found}
 use Rattle.lists.proofs.places.has.Goals as goal
 
@@ -19,35 +23,28 @@ one_more size list zone end k low high other none =
 
 pub loop-k-init : goal.loop-k-init
 unfolding any_of
-loop-k-init c = record {
-  lower = omega arith;
-  upper = omega arith;
-  none_behind = ap (any_of _) (from_end _ c.args.end c.args.end (omega arith));
-}
+loop-k-init c = record { lower = omega arith; none_behind = ap (any_of _) (from_end _ c.args.end c.args.end (omega arith)) }
 
 pub loop-k-preserved-then-apart : goal.loop-k-preserved-then-apart
 loop-k-preserved-then-apart c =
-    let i = c.loop-k.invariant in record {
+    let i = c.loop-k.invariant in
+    record {
       lower = omega arith;
-      upper = omega arith;
-      none_behind =
-          one_more _ _ _ c.args.end c.loop-k.k (omega arith) i.upper (c.apart.ensures c.if-apart.true) i.none_behind;
+      none_behind = one_more _ _ _ c.args.end c.loop-k.k (omega arith) (omega arith) (c.apart.ensures c.if-apart.true) i.none_behind;
     }
 
-pub returns-then-same : goal.returns-then-same
-returns-then-same c =
+pub returns-in-None : goal.returns-in-None
+returns-in-None c =
     let a = c.args in
     let l = c.loop-k in
-    sym (any_found _ (zone_at a.size a.list.now) (a.end - a.first) a.first (l.k - 1)
-    (omega arith) (omega (arith, l.invariant.upper)) (sym c.same.ensures ∙ c.if-same.true))
+    sym (any_found _ (zone_at a.size a.list.now) (a.end - a.first) a.first (l.k - 1) (omega arith) (omega (arith, l.invariant.lower)) c.in-None.ensures)
 
 pub loop-k-preserved : goal.loop-k-preserved
 loop-k-preserved c =
-    let i = c.loop-k.invariant in record {
+    let i = c.loop-k.invariant in
+    record {
       lower = omega arith;
-      upper = omega arith;
-      none_behind =
-          one_more _ _ _ c.args.end c.loop-k.k (omega arith) i.upper (sym c.same.ensures ∙ c.if-same.false) i.none_behind;
+      none_behind = one_more _ _ _ c.args.end c.loop-k.k (omega arith) (omega arith) c.in-Some.ensures.1 i.none_behind;
     }
 
 pub returns : goal.returns

@@ -1,18 +1,14 @@
 -- Zone by zone, the last first: none of those behind is this one.
-use Rattle.std.proofs.Common.{◌≡◌, ◌≤◌, ◌-◌, false}
+use Rattle.std.proofs.Common.{◌≡◌, ◌≤◌, false}
 use Rattle.model.specs.Lists.{any_of}
 use Rattle.model.specs.Matrix.{same_matrix}
+use Rattle.model.proofs.Tabulated.{from}
 use Rattle.memory.specs.Numbers.{bounds_in}
 use Rattle.lists.specs.Lists.{zone_at}
-use Rattle.model.proofs.Tabulated.{from}
 use Rattle.lists.proofs.places.has.Given as goal
 
 abbrev pub invariant-loop-k : goal.invariant-loop-k
 invariant-loop-k l = record {
   lower : l.first ≤ l.k;
-  upper : l.k ≤ l.end;
   none_behind : any_of (same_matrix (bounds_in l.zone)) (from (zone_at l.size l.list) l.end l.k) ≡ false;
 }
-
-abbrev pub decreases-loop-k : goal.decreases-loop-k
-decreases-loop-k l = l.k - l.first

@@ -1,0 +1,84 @@
+-- Place by place; past the row each number stays.
+use borrow.Author.Rules.{rules}
+use Prim.Native.Nat.{ℕ, suc, ◌+◌, ◌*◌, ◌≤◌, ◌<◌}
+use native.Mathlib.Omega.{arith}
+use native.Mathlib.Numerals.{add-one}
+use native.Mathlib.Decide.{dec_lt}
+use mathlib.Core.Path.{◌≡◌, refl, ◌∙◌}
+use mathlib.Core.List.{List}
+use mathlib.Core.Bool.{Bool}
+use lib.IntN.{ℤ, pos}
+use lib.ListN.{length, get_or}
+use mir.Syntax.{w32}
+use mir.Val.{SFits}
+use mir.ValLaws.{to_z-of_z}
+use Rattle.model.specs.Bound.{any, plus, tighter}
+use Rattle.model.proofs.Bounds.{plus_none, tighter_of_le}
+use Rattle.memory.specs.Numbers.{of_halves, bound_in, bounds_in}
+use Rattle.memory.specs.Matrices.{RowFilled}
+use Rattle.memory.proofs.Places.{bounds_size}
+use Rattle.memory.proofs.Fills.{row_step}
+use Rattle.zones.specs.Inner.{beside, EntriesReady}
+use Rattle.zones.proofs.Rows.{entry_number, row_past, number_put, same_put}
+use Rattle.zones.proofs.relax_entries.Goals as goal
+
+module _ {n : ℕ} {zone₀ rest : List ℤ} {i columns : ℕ} {way : ℤ} {narrow : Bool} (r : EntriesReady n zone₀ rest i columns way narrow)
+    (zone : List ℤ) (j k : ℕ) (p : RowFilled n (bounds_in zone₀) (bounds_in zone) (beside n zone₀ rest i (of_halves way)) i j)
+    (same : length zone ≡ length zone₀) (here : k ≡ i * suc n + j) (inside : j < columns) where
+  below : k < length zone
+  below = omega (arith, r.passed)
+
+  -- what the numbers stand for together
+  new_is : j < suc n
+      → tighter (bound_in (get_or zone k (pos 0))) (plus (of_halves way) (bound_in (get_or rest j (pos 0)))) ≡ beside n zone₀ rest i (of_halves way) j
+  new_is h = rw (← entry_number _ _ _ _ _ here below, p.left j h (omega arith))
+
+  old_stays : suc n ≤ j
+      → tighter (bound_in (get_or zone k (pos 0))) (plus (of_halves way) (bound_in (get_or rest j (pos 0)))) ≡ bound_in (get_or zone k (pos 0))
+  old_stays h = rw (r.blank j h (omega (arith, r.passed)), plus_none (of_halves way)) (tighter_of_le any)
+
+pub relaxed-requires : goal.relaxed-requires
+relaxed-requires c =
+    let r = c.requires in
+    let j = c.loop-j.j in
+    let k = c.place-base.result + j in
+    let first = rw add-one at c.place-base.ensures.is in
+    let here : k ≡ c.args.i * suc c.args.n + j = omega arith in
+    let f : SFits w32 (get_or c.loop-j.zone k (pos 0)) = search rules in
+    let g : SFits w32 (get_or c.args.rest.now j (pos 0)) = search rules in
+    rw (to_z-of_z w32 _ f, to_z-of_z w32 _ g)
+    (record {
+      way_small = r.way_small;
+      new_small = λ ne. elim (dec_lt j (suc c.args.n)) [
+        | yes h ↦ rw (new_is r c.loop-j.zone j k c.loop-j.invariant c.loop-j.auto.zone here c.loop-j-test.true h) (r.new_small _ h)
+        | no h ↦ absurd (ne (r.blank j (omega arith) (omega (arith, r.passed))))
+      ];
+      narrow_sum = λ e. let h = r.narrow_sums e in (h.0, h.1 _ (omega arith));
+    })
+
+pub loop-j-preserved : goal.loop-j-preserved
+loop-j-preserved c =
+    let r = c.requires in
+    let zone = c.loop-j.zone in
+    let j = c.loop-j.j in
+    let k = c.place-base.result + j in
+    let inside = c.loop-j-test.true in
+    let same = c.loop-j.auto.zone in
+    let first = rw add-one at c.place-base.ensures.is in
+    let here : k ≡ c.args.i * suc c.args.n + j = omega arith in
+    let fits : SFits w32 c.relaxed.result = record { sfits = c.relaxed.type_inv } in
+    let f : SFits w32 (get_or zone k (pos 0)) = search rules in
+    let g : SFits w32 (get_or c.args.rest.now j (pos 0)) = search rules in
+    let e = rw (to_z-of_z w32 _ f, to_z-of_z w32 _ g) at c.relaxed.ensures in
+    elim (dec_lt j (suc c.args.n)) [
+      | yes h ↦
+          rw (number_put zone k c.relaxed.result _ fits (e ∙ new_is r zone j k c.loop-j.invariant same here inside h), here)
+          (row_step _ c.loop-j.invariant (bounds_size _ ∙ omega (arith, r.zone)) r.at h refl)
+      | no h ↦
+          rw (same_put zone k c.relaxed.result (below r zone j k c.loop-j.invariant same here inside) fits
+          (e ∙ old_stays r zone j k c.loop-j.invariant same here inside (omega arith)))
+          (row_past _ c.loop-j.invariant (omega arith) (omega arith))
+    ]
+
+pub returns : goal.returns
+returns c = row_past _ c.loop-j.invariant (omega (arith, c.requires.passed)) (omega arith)
