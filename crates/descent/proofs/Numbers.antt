@@ -5,8 +5,6 @@ use native.Mathlib.Nat.{add-mul, mul-le-mul}
 use mathlib.Core.Path.{◌≡◌, refl, ap, ◌∙◌}
 use mathlib.Core.List.{List, [], ◌∷◌, map}
 use lib.IntN.{ℤ, pos, nat_abs, ◌*ℤ◌}
-use lib.ListN.{length, take}
-use lib.Seq.{take-length}
 use mir.Syntax.{w64}
 use mir.Val.{SFits}
 use borrow.Author.Tests.{le-ltb}
@@ -17,7 +15,7 @@ use Rattle.model.proofs.Scale.{mul_ud}
 use Rattle.memory.specs.Numbers as Memory
 use Rattle.memory.specs.Numbers.{InMemory}
 use Rattle.memory.specs.Wide.{Largest}
-use Rattle.descent.specs.Numbers.{time_in, times_in}
+use Rattle.descent.specs.Numbers.{time_in}
 
 module _ (z : ℤ) where
   -- in parts
@@ -43,6 +41,5 @@ unfolding Memory.times_in
 fused parts [] = refl
 fused parts (z ∷ zs) = ap (◌∷◌ (part_of parts z)) (fused parts zs)
 
-pub parts_are : (parts : ℕ) (times r : List ℤ) → times_in (take (length times) r) ≡ map (part_of parts) (take (length times) times)
-    → times_in (take (length times) r) ≡ map (scale_time parts) (Memory.times_in times)
-parts_are parts times r e = e ∙ ap (map (part_of parts)) (take-length times) ∙ fused parts times
+pub parts_are : (parts : ℕ) (times : List ℤ) {ts : List Time} → ts ≡ map (part_of parts) times → ts ≡ map (scale_time parts) (Memory.times_in times)
+parts_are parts times e = e ∙ fused parts times

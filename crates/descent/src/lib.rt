@@ -14,7 +14,7 @@ ghost use Rattle.descent.specs.Numbers.{time_in, times_in, TableOf};
 ghost use Rattle.descent.specs.Rows.{RowReady};
 ghost use Rattle.descent.specs.Trying.{left_of, column_ends, end_of_rows, PlacedIn, BuildReady, TryReady, DescendReady, Descended, MeetingReady, MeetingEnds};
 
-use memory::{Stored, WIDE_NONE, holds_time, zone_size};
+use memory::{Stored, WIDE_NONE, changed, holds_time, zone_size};
 use model::{DEPARTURES, NUMBERS, TIMES};
 use zones::{attain, keep_images};
 
@@ -48,11 +48,7 @@ pub fn in_parts(times: &[i32], parts: usize) -> [i64; TIMES]
     requires { (length times.now ≤ most_times) × (parts ≤ suc most_departures) }
     ensures { TableOf times.now parts result }
 {
-    let mut table = [0i64; TIMES];
-    for (k, raw) in times.iter().enumerate() {
-        table[k] = part_of(*raw, parts);
-    }
-    table
+    changed(times, 0, |raw| part_of(raw, parts))
 }
 
 // Adds to part what row i adds with column s for the zone; cols holds the columns of rows 0 to i - 1. False where no times are left, and then what stands in

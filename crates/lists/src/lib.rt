@@ -18,6 +18,7 @@ ghost use Rattle.lists.specs.Inner.{PutReady, PutLast, SelectReady, TakeReady, S
 use ints::Seconds;
 use memory::{holds_time, zone_size};
 use model::{DEPARTURES, NUMBERS};
+use zones::Choice;
 
 mod met;
 mod places;
@@ -36,6 +37,21 @@ pub const SMALL_SEEN: usize = (SMALL + 1) * (met::MANY + 1) * ((SMALL + 1) * (SM
 pub const MIDDLE_SEEN: usize = (MIDDLE + 1) * (met::MANY + 1) * ((MIDDLE + 1) * (MIDDLE + 1));
 
 pub const LARGE_SEEN: usize = ROWS * (met::FEW + 1) * NUMBERS;
+
+// A list in the workspace: so many zones, which stand in it one behind another from base on.
+#[derive(Clone, Copy)]
+pub struct ZoneList {
+    pub base: usize,
+    pub count: usize,
+}
+
+// How each list is made from the one before it: through the table of n departures, with room for so many zones.
+#[derive(Clone, Copy)]
+pub struct Making<'a> {
+    pub n: usize,
+    pub capacity: usize,
+    pub times: &'a [i32],
+}
 
 // A zone that is pulled back through the table of n departures: its numbers, what it needs of each column, and how many zones the list has room for.
 #[derive(Clone, Copy)]
@@ -150,8 +166,8 @@ fn put_last(
     Some(count)
 }
 
-// The sets of the selections with column s in row i, put to the list. Of a column that does not fit what the zone needs, and of a set for which a row has none
-// that does, nothing is left. None where the list has no room for them.
+// The sets of the selections with one column in a row, put to the list. Of a column that does not fit what the zone needs, and of a set for which a row has
+// none that does, nothing is left. None where the list has no room for them.
 #[cycle(select_take_column)]
 fn take_column(
     list: &mut [i32],
@@ -159,17 +175,18 @@ fn take_column(
     pull: Pull,
     seen: &mut [i32],
     path: &mut Path,
-    i: usize,
-    s: usize,
+    choice: Choice,
 ) -> Option<usize>
-    requires { TakeReady pull.n pull.capacity count list.old pull.times.now pull.zone.now pull.table.now seen.old path.old.counts path.old.cols i s }
-    ensures { let p = pull.entry in Selected p.n p.capacity i p.times.now p.zone.now
+    requires { TakeReady pull.n pull.capacity count list.old pull.times.now pull.zone.now pull.table.now seen.old path.old.counts path.old.cols
+        choice.row choice.column }
+    ensures { let p = pull.entry in Selected p.n p.capacity choice.row p.times.now p.zone.now
         (foldl keep (list_in (zone_size p.n) count list.old)
         (column_sets p.n (times_in p.times.now) (bounds_in p.zone.now)
-        (parent_in p.n seen.old path.old.counts i) (take i path.old.cols) i s))
+        (parent_in p.n seen.old path.old.counts choice.row) (take choice.row path.old.cols) choice.row choice.column))
         list.old seen.old path.old.counts path.old.cols
         result list.new seen.new path.new.counts path.new.cols }
 {
+    let Choice { row: i, column: s } = choice;
     if met::unfit(seen, path, pull, i, s) {
         return Some(count);
     }
@@ -209,7 +226,8 @@ fn select(
     let mut so_far = count;
     for s in 1..pull.n + 1 {
         if holds_time(pull.times, pull.n, i, s) {
-            so_far = take_column(list, so_far, pull, seen, path, i, s)?;
+            let choice = Choice { row: i, column: s };
+            so_far = take_column(list, so_far, pull, seen, path, choice)?;
         }
     }
     Some(so_far)
@@ -219,18 +237,17 @@ fn select(
 fn pull_back(
     list: &mut [i32],
     count: usize,
-    capacity: usize,
-    times: &[i32],
+    making: Making,
     zone: &[i32],
     seen: &mut [i32],
-    n: usize,
 ) -> Option<usize>
-    requires { PullReady n capacity count list.old times.now zone.now seen.old }
-    ensures { ListHeld (zone_size n) capacity
-        (foldl keep (list_in (zone_size n) count list.old)
-        (map (preimage n (times_in times.now) (bounds_in zone.now)) (selections n (times_in times.now) n 1)))
+    requires { PullReady making.n making.capacity count list.old making.times.now zone.now seen.old }
+    ensures { let m = making.entry in ListHeld (zone_size m.n) m.capacity
+        (foldl keep (list_in (zone_size m.n) count list.old)
+        (map (preimage m.n (times_in m.times.now) (bounds_in zone.now)) (selections m.n (times_in m.times.now) m.n 1)))
         result list.old list.new }
 {
+    let Making { n, capacity, times } = making;
     let size = zone_size(n);
     zones::everything(&mut seen[..size], n);
     let mut table = [0i64; NUMBERS];
@@ -249,36 +266,27 @@ fn pull_back(
     select(list, count, pull, seen, &mut path, 1)
 }
 
-// The list made from the list at source, at goal: its length, or that it has no room. Nothing of the workspace outside the half at goal changes.
+// The list made from another, at goal: its length, or that it has no room. Nothing of the workspace outside the half at goal changes.
 pub fn next_list(
     work: &mut [i32],
-    source: usize,
+    source: ZoneList,
     goal: usize,
-    count: usize,
-    capacity: usize,
-    times: &[i32],
+    making: Making,
     seen: &mut [i32],
-    n: usize,
 ) -> Option<usize>
-    requires { Building n capacity source goal count work.old times.now seen.old }
-    ensures { NextList n capacity source goal count times.now work.old seen.old result work.new seen.new }
+    requires { Building making.n making.capacity source.base goal source.count work.old making.times.now seen.old }
+    ensures { let m = making.entry in
+        NextList m.n m.capacity source.base goal source.count m.times.now work.old seen.old result work.new seen.new }
 {
-    let size = zone_size(n);
+    let ZoneList { base, count } = source;
+    let size = zone_size(making.n);
     let mut zone = [0i32; NUMBERS];
     let mut made = 0;
     for k in 0..count {
-        let from = source + k * size;
+        let from = base + k * size;
         let to = from + size;
         zone[..size].copy_from_slice(&work[from..to]);
-        made = pull_back(
-            &mut work[goal..],
-            made,
-            capacity,
-            times,
-            &zone[..size],
-            seen,
-            n,
-        )?;
+        made = pull_back(&mut work[goal..], made, making, &zone[..size], seen)?;
     }
     Some(made)
 }
@@ -296,19 +304,19 @@ pub fn first_list(work: &mut [i32], pattern: &[i32], n: usize) -> usize
     1
 }
 
-// The start, in parts, picked in what the first zone of the list at base that meets the pattern has in common with it, if one does. That is tightened beside,
+// The start, in parts, picked in what the first zone of the list that meets the pattern has in common with it, if one does. That is tightened beside,
 // since the zone is needed for the next list.
 pub fn first_common(
     work: &[i32],
-    base: usize,
-    count: usize,
+    list: ZoneList,
     pattern: &[i32],
     n: usize,
     parts: usize,
 ) -> Option<[Seconds; DEPARTURES]>
-    requires { Meeting n parts base count work.now pattern.now }
-    ensures { result ≡ found_by n parts (first_common n (bounds_in pattern.now) (list_in (zone_size n) count (drop base work.now))) }
+    requires { Meeting n parts list.base list.count work.now pattern.now }
+    ensures { result ≡ found_by n parts (first_common n (bounds_in pattern.now) (list_in (zone_size n) list.count (drop list.base work.now))) }
 {
+    let ZoneList { base, count } = list;
     let size = zone_size(n);
     let mut zone = [0i32; NUMBERS];
     for k in 0..count {

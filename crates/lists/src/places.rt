@@ -15,12 +15,9 @@ fn first_other(list: &[i32], k: usize, zone: &[i32], size: usize) -> Option<usiz
     ensures { Other size list.now k zone.now result }
 {
     let base = k * size;
-    for p in 0..size {
-        if zone[p] != list[base + p] {
-            return Some(p);
-        }
-    }
-    None
+    zone.iter()
+        .zip(&list[base..base + size])
+        .position(|(a, b)| a != b)
 }
 
 // Place p, if there is such a place, shows that zone k of the list is another than this one.

@@ -2,6 +2,7 @@
 #![tactic(auto)]
 
 ghost use Rattle.std.specs.Prelude.{◌≡◌, ℕ, List, true, ◌||◌, map, suc, ◌+◌, ◌*◌, ◌≤◌, ◌<◌, pos, ◌-ℤ◌, nat_abs, length, set, take};
+ghost use Rattle.std.specs.List.{All, AllZip};
 ghost use Rattle.std.specs.Int.Signed.{lt_z};
 ghost use Rattle.model.specs.Sizes.{most_departures, bound_limit, table_size, pattern_size, zone_size, most_bounds, most_times_at_once};
 ghost use Rattle.model.specs.Lists.{Every};
@@ -287,6 +288,14 @@ fn raw_time(entry: Option<Seconds>) -> i32
     time.0 as i32
 }
 
+// The number in memory that stands for a bound of a case.
+fn raw_bound(entry: Option<Limit>) -> i32
+    requires { InLimit bound_limit (stated entry) }
+    ensures { bound_in result ≡ bound_of entry }
+{
+    i32::of_bound(Number::of(entry))
+}
+
 // The bound on x(i) - x(j) where all times are allowed.
 pub fn diagonal(i: usize, j: usize) -> Number
     ensures { (as_bound result ≡ diagonal i j) × Small 0 (as_bound result) }
@@ -403,16 +412,30 @@ pub fn differences(start: &[i32], target: &[i32], n: usize) -> bool
     only_differences(start, n) || only_differences(target, n)
 }
 
+// What change makes of each entry, at the front of an array; what stands beyond is free.
+pub fn changed<X: Copy, Y: Copy, F: Fn(X) -> Y, const SIZE: usize>(
+    entries: &[X],
+    blank: Y,
+    change: F,
+) -> [Y; SIZE]
+    requires room { length entries.now ≤ SIZE }
+    requires may { All (F.pre change) entries.now }
+    ensures front { AllZip (F.post change) entries.now (take (length entries.now) result) }
+    ensures long { length result ≡ SIZE }
+{
+    let mut made = [blank; SIZE];
+    for (k, entry) in entries.iter().enumerate() {
+        made[k] = change(*entry);
+    }
+    made
+}
+
 // The first count entries of the table of a case as numbers in memory; those beyond are free.
 pub fn times_in(slots: [Option<Seconds>; BOUNDS], count: usize) -> [i32; BOUNDS]
     requires { (count ≤ most_bounds) × Every (InLimit bound_limit) (take count slots) }
     ensures { (times_in (take count result) ≡ map time_of (take count slots)) × (length result ≡ most_bounds) }
 {
-    let mut memory = [0i32; BOUNDS];
-    for (k, entry) in slots[..count].iter().enumerate() {
-        memory[k] = raw_time(*entry);
-    }
-    memory
+    changed(&slots[..count], 0, raw_time)
 }
 
 // The first size bounds of a pattern of a case, likewise.
@@ -420,9 +443,5 @@ pub fn bounds_in(limits: [Option<Limit>; BOUNDS], size: usize) -> [i32; BOUNDS]
     requires { (size ≤ most_bounds) × Every (λ e. InLimit bound_limit (stated e)) (take size limits) }
     ensures { (bounds_in (take size result) ≡ map bound_of (take size limits)) × (length result ≡ most_bounds) }
 {
-    let mut memory = [0i32; BOUNDS];
-    for (k, limit) in limits[..size].iter().enumerate() {
-        memory[k] = i32::of_bound(Number::of(*limit));
-    }
-    memory
+    changed(&limits[..size], 0, raw_bound)
 }

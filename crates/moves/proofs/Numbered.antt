@@ -1,5 +1,5 @@
 -- Lists of zones by their numbers: one is another with the clock moved where each of its numbers is.
-use Prim.Native.Nat.{ℕ, suc, ◌+◌, ◌*◌, ◌/◌, ◌%◌, ◌≤◌, ◌<◌}
+use Prim.Native.Nat.{ℕ, suc, ◌+◌, ◌*◌, ◌-◌, ◌/◌, ◌%◌, ◌≤◌, ◌<◌}
 use native.Mathlib.Omega.{arith}
 use native.Mathlib.Decide.{ℕ_discrete}
 use native.Mathlib.Nat.{zero-add, mul-le-mul_right, suc-mul, add-mul, mul_assoc, div-add-mod', mod-lt, div-lt_iff_lt-mul}
@@ -8,7 +8,11 @@ use mathlib.Core.List.{List, map}
 use lib.Arith.{digits_lt, digits_div, digits_mod}
 use lib.IntN.{ℤ, pos, ◌-ℤ◌}
 use lib.ListN.{length, take, drop, get_or, set, length-drop, length-set}
-use lib.Seq.{get_or-take, get_or-drop, get_or-set_same, get_or-set_other, take-set-le, drop-set-lt}
+use lib.Seq.{length-take-le, get_or-take, get_or-drop, get_or-set_same, get_or-set_other, take-set-le, drop-set-lt}
+use Rattle.std.proofs.Common.{Bool, true, MatchBool}
+use Rattle.std.specs.List.{zip, enumerate_from, AllWithin, HoldsAt}
+use Rattle.std.proofs.lemmas.Slice.Zip.{length-zip, get_or-zip}
+use Rattle.std.proofs.lemmas.List.FromFn.{length-enumerate_from, get_or-enumerate_from}
 use Rattle.model.specs.Sizes.{zone_size}
 use Rattle.model.specs.Bound.{Bound, most, plus}
 use Rattle.model.specs.Matrix.{Matrix, entry}
@@ -21,7 +25,7 @@ use Rattle.memory.specs.Side.{numbers_at}
 use Rattle.memory.proofs.Side.{length_numbers}
 use Rattle.memory.proofs.Places.{get_d_bounds, bounds_size}
 use Rattle.lists.specs.Lists.{zone_at, list_in}
-use Rattle.moves.specs.Moving.{clock_by, moved, change_at, Movable, MoveList}
+use Rattle.moves.specs.Moving.{clock_by, moved, change_at, TwoLists, Movable, MoveList}
 use Rattle.moves.proofs.Potentials.{move_size, move_entry}
 
 -- what place p of the list changes by, of the bound there
@@ -85,11 +89,61 @@ moved_numbers n count c work after base goal b g each =
     ∙ sym (moved_entry n count work base b h c i j hi hj)))
     ∙ sym (map_tabulate (moved n c) count 0 (zone_at (zone_size n) (drop base work)))
 
--- the first p of them
-abbrev pub FollowUpto : ℕ → ℤ → List ℤ → ℕ → ℕ → ℕ → Type 0
-FollowUpto n c work source goal p = (q : ℕ) → q < p → bound_in (get_or work (goal + q) (pos 0)) ≡ changed n c source work q
+-- two numbers by their place: the second is the first, changed
+abbrev pub Follows : ℕ → ℤ → ℕ × (ℤ × ℤ) → Type 0
+Follows n c t = bound_in t.1.1 ≡ plus (bound_in t.1.0) (most (change_at n c t.0))
 
-pub one_more : (P : ℕ → Type 0) (p : ℕ) → ((q : ℕ) → q < p → P q) → P p → (q : ℕ) → q < p + 1 → P q
+-- the part of the workspace from base on, lent, and two parts side by side
+abbrev pub part : ℕ → List ℤ → ℕ → List ℤ
+part size work base = take (base + size - base) (drop base work)
+
+part_long : (size : ℕ) (work : List ℤ) (base : ℕ) → base + size ≤ length work → length (part size work base) ≡ size
+part_long size work base inside =
+    let e : base + size - base ≡ size = omega arith in rw e (length-take-le size (drop base work) (omega (arith, length-drop base work)))
+
+part_at : (size : ℕ) (work : List ℤ) (base p : ℕ) → p < size → get_or (part size work base) p (pos 0) ≡ get_or work (base + p) (pos 0)
+part_at size work base p h =
+    let e : base + size - base ≡ size = omega arith in
+    rw e (get_or-take size (drop base work) p (pos 0) h ∙ get_or-drop base work p (pos 0))
+
+abbrev pub side_by_side : ℕ → List ℤ → ℕ → ℕ → List (ℕ × (ℤ × ℤ))
+side_by_side size work source goal = enumerate_from 0 (zip (part size work source) (part size work goal))
+
+abbrev pub pairs_of : ℕ → ℕ → List ℤ → ℕ → ℕ → List (ℕ × (ℤ × ℤ))
+pairs_of n count = side_by_side (count * zone_size n)
+
+module _ (size : ℕ) (work : List ℤ) (source goal : ℕ) (s : source + size ≤ length work) (g : goal + size ≤ length work) where
+  zip_long : length (zip (part size work source) (part size work goal)) ≡ size
+  zip_long =
+      let a = part_long size work source s in
+      let b = part_long size work goal g in
+      length-zip (part size work source) (part size work goal) ∙ omega arith
+
+  pairs_follow : (n : ℕ) (c : ℤ) → AllWithin (Follows n c) (side_by_side size work source goal) 0 (length (side_by_side size work source goal))
+      → (p : ℕ) → p < size → bound_in (get_or work (goal + p) (pos 0)) ≡ changed n c source work p
+  pairs_follow n c all p h =
+      let a = part_long size work source s in
+      let b = part_long size work goal g in
+      let pairs = zip (part size work source) (part size work goal) in
+      let there = all p (0, (pos 0, pos 0)) (omega arith) (omega (arith, length-enumerate_from 0 pairs, zip_long)) in
+      rw (
+        get_or-enumerate_from 0 pairs p (0, (pos 0, pos 0)) (omega (arith, zip_long)),
+        get_or-zip (part size work source) (part size work goal) p (pos 0, pos 0) (omega arith) (omega arith),
+        part_at size work source p h,
+        part_at size work goal p h,
+        zero-add p,
+      ) at there
+
+-- by what all tells of the pairs
+pub list_follows : {n source goal count : ℕ} (c : ℤ) {work : List ℤ} → TwoLists n source count goal count work → (r : Bool)
+    → MatchBool r (AllWithin (Follows n c) (pairs_of n count work source goal) 0 (length (pairs_of n count work source goal)))
+    ((k : ℕ) × (k < length (pairs_of n count work source goal)) × HoldsAt (λ t. Unit {0}) (pairs_of n count work source goal) k) → r ≡ true
+    → list_in (zone_size n) count (drop goal work) ≡ map (moved n c) (list_in (zone_size n) count (drop source work))
+list_follows {n} {source} {goal} {count} c {work} two r all e =
+    moved_numbers n count c work work source goal two.source_in two.goal_in
+    (pairs_follow (count * zone_size n) work source goal two.source_in two.goal_in n c (rw e at all))
+
+one_more : (P : ℕ → Type 0) (p : ℕ) → ((q : ℕ) → q < p → P q) → P p → (q : ℕ) → q < p + 1 → P q
 one_more P p before here q h = elim (ℕ_discrete q p) [ yes is ↦ rw is here | no other ↦ before q (omega arith) ]
 
 -- ---- a list that can be moved

@@ -10,6 +10,7 @@ ghost use Rattle.lists.specs.Lists.{list_in};
 ghost use Rattle.moves.specs.Moving.{moved, clock_by, Changing, Change, TwoLists, MovedBy, Movable, MoveList};
 
 use ints::{Seconds, ZERO};
+use lists::ZoneList;
 use memory::{NONE, zone_size};
 
 // How much later x(i) is, where the clock is so much later.
@@ -94,53 +95,44 @@ fn gap(work: &[i32], source: usize, goal: usize, n: usize) -> Seconds
     ZERO
 }
 
-// The list at goal is the one at source with the clock so much later: true only where it is. Free: whether it is true there.
-fn follow(work: &[i32], source: usize, goal: usize, count: usize, n: usize, by: Seconds) -> bool
-    requires { TwoLists n source count goal count work.now × (nat_abs by.0 ≤ InMemory) }
-    ensures { result ≡ true → list_in (zone_size n) count (drop goal work.now)
-        ≡ map (moved n by.0) (list_in (zone_size n) count (drop source work.now)) }
+// The list at goal is the other one with the clock so much later: true only where it is. Free: whether it is true there.
+fn follow(work: &[i32], source: ZoneList, goal: usize, n: usize, by: Seconds) -> bool
+    requires { TwoLists n source.base source.count goal source.count work.now × (nat_abs by.0 ≤ InMemory) }
+    ensures { result ≡ true → list_in (zone_size n) source.count (drop goal work.now)
+        ≡ map (moved n by.0) (list_in (zone_size n) source.count (drop source.base work.now)) }
 {
-    let size = count * zone_size(n);
-    for p in 0..size {
-        let before = work[source + p];
-        let after = work[goal + p];
-        if !follows(before, change(by, n, p), after) {
-            return false;
-        }
-    }
-    true
+    let size = source.count * zone_size(n);
+    work[source.base..source.base + size]
+        .iter()
+        .zip(&work[goal..goal + size])
+        .enumerate()
+        .all(|(p, (before, after))| follows(*before, change(by, n, p), *after))
 }
 
-// By how much the list at goal is the one at source with the clock moved, if it is.
-pub fn find_move(
-    work: &[i32],
-    source: usize,
-    count: usize,
-    goal: usize,
-    next: usize,
-    n: usize,
-) -> Option<Seconds>
-    requires { TwoLists n source count goal next work.now × (1 ≤ count) }
-    ensures { MovedBy n source count goal next work.now result }
+// By how much one list is the one before it with the clock moved, if it is.
+pub fn find_move(work: &[i32], before: ZoneList, next: ZoneList, n: usize) -> Option<Seconds>
+    requires { TwoLists n before.base before.count next.base next.count work.now × (1 ≤ before.count) }
+    ensures { MovedBy n before.base before.count next.base next.count work.now result }
 {
-    if next != count {
+    if next.count != before.count {
         return None;
     }
-    let by = gap(work, source, goal, n);
-    if follow(work, source, goal, count, n, by) {
+    let by = gap(work, before.base, next.base, n);
+    if follow(work, before, next.base, n, by) {
         Some(by)
     } else {
         None
     }
 }
 
-// Moves the clock of each zone of the list at base, in place; by index, since after iter_mut of a part no proof knows what the rest of it holds.
-pub fn move_list(work: &mut [i32], base: usize, count: usize, n: usize, by: Seconds)
-    requires { Movable n base count by.0 work.old }
-    ensures { MoveList n base count by.0 work.old work.new }
+// Moves the clock of each zone of the list, in place; by index, since after iter_mut of a part no proof knows what the rest of it holds.
+pub fn move_list(work: &mut [i32], list: ZoneList, n: usize, by: Seconds)
+    requires { Movable n list.base list.count by.0 work.old }
+    ensures { MoveList n list.base list.count by.0 work.old work.new }
 {
-    let size = count * zone_size(n);
+    let size = list.count * zone_size(n);
     for p in 0..size {
-        work[base + p] = shifted(work[base + p], change(by, n, p));
+        let at = list.base + p;
+        work[at] = shifted(work[at], change(by, n, p));
     }
 }

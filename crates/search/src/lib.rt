@@ -11,6 +11,7 @@ ghost use Rattle.model.specs.Answers.{answered};
 ghost use Rattle.search.specs.Searching.{Searchable, MovingOn, moved_search, past_by, Searched};
 
 use ints::{Cycle, Seconds, ZERO};
+use lists::{Making, ZoneList};
 use model::{Answer, Fault, StartTimes, Verdict};
 
 // What getting past the last cycle means. An Option<Cycle> would not be plainer: its None does not say never.
@@ -45,12 +46,12 @@ pub struct Task<'a> {
     pub target: &'a [i32],
 }
 
-// The rest of a search where each list is the one before it with the clock moved, and list k is at base. Where the clock does not move, they are all the
+// The rest of a search where each list is the one before it with the clock moved, and this is list k. Where the clock does not move, they are all the
 // same, and none meets the start.
-fn move_on(work: &mut [i32], base: usize, count: usize, task: Task, k: Cycle, by: Seconds) -> Answer
-    requires { MovingOn task.n task.parts base count (task.cycles.0 - k.0) by.0 work.old task.start.now }
+fn move_on(work: &mut [i32], list: ZoneList, task: Task, k: Cycle, by: Seconds) -> Answer
+    requires { MovingOn task.n task.parts list.base list.count (task.cycles.0 - k.0) by.0 work.old task.start.now }
     ensures { let t = task.entry in result ≡ answered (moved_search t.n t.parts by.0 (bounds_in t.start.now) (t.cycles.0 - k.0) (suc k.0)
-        (list_in (zone_size t.n) count (drop base work.old)) (past_by t.end)) }
+        (list_in (zone_size t.n) list.count (drop list.base work.old)) (past_by t.end)) }
 {
     let past = task.end.answer();
     if by == ZERO {
@@ -59,8 +60,8 @@ fn move_on(work: &mut [i32], base: usize, count: usize, task: Task, k: Cycle, by
     let n = task.n;
     let parts = task.parts;
     for at in k.0..task.cycles.0 {
-        moves::move_list(work, base, count, n, by);
-        if let Some(times) = lists::first_common(work, base, count, task.start, n, parts) {
+        moves::move_list(work, list, n, by);
+        if let Some(times) = lists::first_common(work, list, task.start, n, parts) {
             return Ok(Verdict::Reached(Cycle(at + 1), StartTimes { parts, times }));
         }
     }
@@ -77,37 +78,32 @@ fn search_with(work: &mut [i32], seen: &mut [i32], task: Task) -> Answer
     let n = task.n;
     let parts = task.parts;
     let half = task.capacity * memory::zone_size(n);
-    let mut count = lists::first_list(work, task.target, n);
-    let mut source = 0;
+    let making = Making {
+        n,
+        capacity: task.capacity,
+        times: task.times,
+    };
+    let count = lists::first_list(work, task.target, n);
+    let mut list = ZoneList { base: 0, count };
     for k in 0..task.cycles.0 {
-        if count == 0 {
+        if list.count == 0 {
             break;
         }
         let cycle = Cycle(k + 1);
-        let goal = half - source;
-        let made = lists::next_list(
-            work,
-            source,
-            goal,
-            count,
-            task.capacity,
-            task.times,
-            seen,
-            n,
-        );
-        let Some(next) = made else {
+        let goal = half - list.base;
+        let Some(count) = lists::next_list(work, list, goal, making, seen) else {
             return Err(Fault::TableFull(cycle));
         };
-        if let Some(times) = lists::first_common(work, goal, next, task.start, n, parts) {
+        let next = ZoneList { base: goal, count };
+        if let Some(times) = lists::first_common(work, next, task.start, n, parts) {
             return Ok(Verdict::Reached(cycle, StartTimes { parts, times }));
         }
-        if let Some(by) = moves::find_move(work, source, count, goal, next, n) {
-            return move_on(work, goal, next, task, cycle, by);
+        if let Some(by) = moves::find_move(work, list, next, n) {
+            return move_on(work, next, task, cycle, by);
         }
-        count = next;
-        source = goal;
+        list = next;
     }
-    if count == 0 {
+    if list.count == 0 {
         return Ok(Verdict::Never);
     }
     task.end.answer()

@@ -6,8 +6,6 @@ use mathlib.Core.Path.{◌≡◌, refl, ap, ◌∙◌}
 use mathlib.Core.List.{List, [], ◌∷◌, map}
 use mathlib.Core.Option.{some}
 use lib.IntN.{ℤ}
-use lib.ListN.{length, take}
-use lib.Seq.{take-length}
 use Rattle.model.specs.Sizes.{most_departures}
 use Rattle.model.specs.Bound.{Bound, scale, whole}
 use Rattle.model.specs.Matrix.{Matrix, everything, tighten}
@@ -47,9 +45,8 @@ unfolding Memory.bounds_in
 fused parts [] = refl
 fused parts (z ∷ zs) = ap (◌∷◌ (part_of parts z)) (fused parts zs)
 
-pub parts_are : (parts : ℕ) (zone r : List ℤ) → bounds_in (take (length zone) r) ≡ map (part_of parts) (take (length zone) zone)
-    → bounds_in (take (length zone) r) ≡ map whole (map (scale parts) (Memory.bounds_in zone))
-parts_are parts zone r e = e ∙ ap (map (part_of parts)) (take-length zone) ∙ fused parts zone
+pub parts_are : (parts : ℕ) (zone : List ℤ) {ds : Matrix} → ds ≡ map (part_of parts) zone → ds ≡ map whole (map (scale parts) (Memory.bounds_in zone))
+parts_are parts zone e = e ∙ fused parts zone
 
 module _ {n : ℕ} {zone : List ℤ} {parts : ℕ} (r : StartReady n zone parts) (bounds : List ℤ)
     (e : bounds_in bounds ≡ map whole (map (scale parts) (Memory.bounds_in zone))) where

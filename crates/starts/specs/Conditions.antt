@@ -1,10 +1,9 @@
 -- What the functions require and ensure.
-use Rattle.std.specs.Prelude.{ℕ, suc, ◌≤◌, ◌<◌, ◌≡◌, List, map, ℤ, length, take}
+use Rattle.std.specs.Prelude.{ℕ, suc, ◌≤◌, ◌≡◌, List, map, ℤ, length, take}
 use Rattle.std.proofs.Math.Option.{some}
 use Rattle.model.specs.Sizes.{zone_size, most_departures, most_numbers}
-use Rattle.model.specs.Lists.{tabulate}
 use Rattle.model.specs.Bound.{scale, whole}
-use Rattle.model.specs.Matrix.{Matrix, entry, everything, Constraint}
+use Rattle.model.specs.Matrix.{Matrix, everything, Constraint}
 use Rattle.model.specs.Search.{bounds_of, wholes}
 use Rattle.model.specs.Conditions.{Departures, Bounded, Fitting}
 use Rattle.memory.specs.Conditions.{ZoneIn}
@@ -13,22 +12,11 @@ use Rattle.memory.specs.Numbers as Memory
 use Rattle.memory.specs.Numbers.{InMemory}
 use Rattle.starts.specs.Numbers.{bounds_in, Stored}
 
--- the bounds of d on x(i) - x(j) for each j, as constraints
-abbrev pub bound_limit : ℕ → Matrix → ℕ → ℕ → Constraint
-bound_limit n d i j = record { row = i; col = j; limit = entry (suc n) d i j }
-
-abbrev pub bound_row : ℕ → Matrix → ℕ → List Constraint
-bound_row n d i = tabulate (suc n) 0 (bound_limit n d i)
-
 -- z can take in constraints, which leave some times, that the numbers of bounds say
 pub record Ready (n : ℕ) (z bounds : List ℤ) (ks : List Constraint) : Type 0 where
   pub taking : Takes n Stored (bounds_in z) ks
   pub times : SomeLeft n (bounds_in z) ks
   pub source : ZoneIn n bounds
-
-pub record RowReady (n : ℕ) (z bounds : List ℤ) (i : ℕ) : Type 0 where
-  pub ready : Ready n z bounds (bound_row n (bounds_in bounds) i)
-  pub row : i < suc n
 
 abbrev pub AllReady : ℕ → List ℤ → List ℤ → Type 0
 AllReady n z bounds = Ready n z bounds (bounds_of (suc n) (bounds_in bounds))

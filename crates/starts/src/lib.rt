@@ -2,49 +2,28 @@
 #![tactic(auto)]
 
 ghost use Rattle.std.specs.Prelude.{◌≡◌, suc, ◌+◌, ◌*◌, ◌≤◌, ◌<◌, length, take};
-ghost use Rattle.std.proofs.Math.Option.{some};
 ghost use Rattle.model.specs.Sizes.{most_departures, most_numbers, zone_size};
 ghost use Rattle.model.specs.Bound.{upto, most, scale, whole};
 ghost use Rattle.model.specs.Network.{clocked};
-ghost use Rattle.model.specs.Search.{bounds_of, greatest_or, pick, start_in};
+ghost use Rattle.model.specs.Search.{greatest_or, pick, start_in};
 ghost use Rattle.model.specs.Answers.{all_times};
 ghost use Rattle.model.specs.Conditions.{Departures, Small};
 ghost use Rattle.memory.specs.Numbers.{of_halves, as_bound, InMemory, Widest};
 ghost use Rattle.memory.specs.Numbers as Memory;
 ghost use Rattle.memory.specs.Conditions.{ZoneIn};
-ghost use Rattle.memory.specs.Matrices.{leaves, values, NextFrom, NextOf};
+ghost use Rattle.memory.specs.Matrices.{values, NextFrom, NextOf};
 ghost use Rattle.starts.specs.Numbers.{odd, bound_in, bounds_in, Largest};
-ghost use Rattle.starts.specs.Conditions.{bound_row, RowReady, AllReady, PartsOf, StartReady, WholesOf};
+ghost use Rattle.starts.specs.Conditions.{PartsOf, StartReady, WholesOf};
 
 use ints::{Seconds, ZERO};
-use memory::{BLANK, Halves, Number, Stored, WIDE_NONE, bound_at, zone_size};
+use memory::{BLANK, Halves, Number, Stored, WIDE_NONE, bound_at, changed, zone_size};
 use model::{DEPARTURES, NUMBERS};
-use zones::{everything, take_in};
-
-// Takes in what the bounds say of x(i) - x(j), for each j. Some times are left, so what take_in answers is known.
-fn take_row(zone: &mut [i64], bounds: &[i64], n: usize, i: usize)
-    requires { RowReady n zone.old bounds.now i }
-    ensures { leaves n (bounds_in zone.old) (bound_row n (bounds_in bounds.now) i) ≡ some (bounds_in zone.new) }
-{
-    for j in 0..n + 1 {
-        take_in(zone, n, i, j, bound_at(bounds, n, i, j));
-    }
-}
-
-// Takes in all that the bounds say.
-fn take_all(zone: &mut [i64], bounds: &[i64], n: usize)
-    requires { AllReady n zone.old bounds.now }
-    ensures { leaves n (bounds_in zone.old) (bounds_of (suc n) (bounds_in bounds.now)) ≡ some (bounds_in zone.new) }
-{
-    for i in 0..n + 1 {
-        take_row(zone, bounds, n, i);
-    }
-}
+use zones::{everything, take_all};
 
 // x(s), of times of departures 1 on: x(0) is the clock's zero.
-fn clocked(times: [Seconds; DEPARTURES], s: usize) -> Seconds
-    requires { s ≤ most_departures }
-    ensures { result.0 ≡ clocked (values times) s }
+fn clocked(times: &[Seconds], s: usize) -> Seconds
+    requires { s ≤ length times.now }
+    ensures { result.0 ≡ clocked (values times.now) s }
 {
     if s == 0 {
         return ZERO;
@@ -73,9 +52,9 @@ fn greatest_or(early: Number, late: Number) -> Seconds
 }
 
 // The time of departure t, given those before it: how early it may be, negated, and how late.
-fn next_time(zone: &[i64], n: usize, times: [Seconds; DEPARTURES], t: usize) -> Seconds
-    requires { NextFrom n Largest zone.now (values times) t }
-    ensures { NextOf n Largest (bounds_in zone.now) (values times) t result }
+fn next_time(zone: &[i64], n: usize, times: &[Seconds], t: usize) -> Seconds
+    requires { NextFrom n Largest zone.now (values times.now) t × (t ≤ length times.now) }
+    ensures { NextOf n Largest (bounds_in zone.now) (values times.now) t result }
 {
     let mut early = BLANK;
     let mut late = BLANK;
@@ -94,7 +73,7 @@ pub fn pick(zone: &[i64], n: usize) -> [Seconds; DEPARTURES]
 {
     let mut times = [ZERO; DEPARTURES];
     for t in 1..n + 1 {
-        times[t - 1] = next_time(zone, n, times, t);
+        times[t - 1] = next_time(zone, n, &times, t);
     }
     times
 }
@@ -124,14 +103,10 @@ fn in_parts(zone: &[i32], parts: usize) -> [i64; NUMBERS]
     requires { (length zone.now ≤ most_numbers) × (parts ≤ suc most_departures) }
     ensures { PartsOf zone.now parts result }
 {
-    let mut bounds = [0i64; NUMBERS];
-    for (k, raw) in zone.iter().enumerate() {
-        bounds[k] = part_of(*raw, parts);
-    }
-    bounds
+    changed(zone, 0, |raw| part_of(raw, parts))
 }
 
-// The zone in whole parts, with its tightest bounds, at the front of an array.
+// The zone in whole parts, with its tightest bounds, at the front of an array. Some times are left, so what take_all answers is known.
 pub fn whole_zone(zone: &[i32], n: usize, parts: usize) -> [i64; NUMBERS]
     requires { StartReady n zone.now parts }
     ensures { WholesOf n zone.now parts result }
@@ -141,7 +116,8 @@ pub fn whole_zone(zone: &[i32], n: usize, parts: usize) -> [i64; NUMBERS]
     let mut wholes = [0i64; NUMBERS];
     let front = &mut wholes[..size];
     everything(front, n);
-    take_all(front, &bounds[..size], n);
+    let bounds = &bounds[..size];
+    take_all(front, n, |i, j| bound_at(bounds, n, i, j));
     wholes
 }
 

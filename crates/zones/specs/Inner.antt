@@ -8,11 +8,10 @@ use Rattle.model.specs.Bound as B
 use Rattle.model.specs.Bound.{Bound, plus, tighter}
 use Rattle.model.specs.Matrix.{Matrix, entry, Constraint}
 use Rattle.model.specs.Network.{Time, time}
-use Rattle.model.specs.Pattern.{pair_bound}
 use Rattle.model.specs.Search.{chosen, slack, keeps}
 use Rattle.model.specs.Conditions.{Chosen, Cols, Small}
 use Rattle.memory.specs.Numbers.{of_halves, none_in, bound_in, bounds_in, times_in, Limit, InMemory}
-use Rattle.memory.specs.Conditions.{ZoneIn, TableIn, PatternIn}
+use Rattle.memory.specs.Conditions.{ZoneIn, TableIn}
 use Rattle.memory.specs.Matrices.{RowFilled, Relaxable, Takes}
 use Rattle.zones.specs.declared.Choice.{Choice}
 
@@ -20,10 +19,6 @@ use Rattle.zones.specs.declared.Choice.{Choice}
 -- row i of z' is f, and all else is as in z
 abbrev pub RowMade : ℕ → List ℤ → List ℤ → (ℕ → Bound) → ℕ → Type 0
 RowMade n z z' f i = RowFilled n (bounds_in z) (bounds_in z') f i (suc n)
-
--- z can take in the constraints ks
-abbrev pub Taking : ℕ → List ℤ → List Constraint → Type 0
-Taking n z ks = Takes n Limit (bounds_in z) ks
 
 -- ---- a row of numbers, and another row that takes in the way by it
 -- the most that two numbers are in size if their sum is taken in 32 bits
@@ -110,13 +105,6 @@ image_pairs n a d cols i s l = keep_both n a d (choice i s) (choice l (get_or co
 abbrev pub images : ℕ → List Time → Matrix → List ℕ → ℕ → ℕ → List Constraint
 images n a d cols i s = flatten (tabulate i 0 (image_pairs n a d cols i s))
 
--- what a pattern says of x(i) - x(j), and of it for each j
-abbrev pub pair_limit : ℕ → List Bound → ℕ → ℕ → Constraint
-pair_limit n b i j = record { row = i; col = j; limit = pair_bound n b i j }
-
-abbrev pub pair_row : ℕ → List Bound → ℕ → List Constraint
-pair_row n b i = tabulate (suc n) 0 (pair_limit n b i)
-
 -- what column s adds in row i; a is what the table stands for
 pub record Adding {A : Type 0} (n : ℕ) (times : List A) (a : List Time) (i s : ℕ) : Type 0 where
   pub table : TableIn n times
@@ -161,8 +149,3 @@ pub record KeepsImages {A : Type 0} (L n : ℕ) (p : Matrix) (times : List A) (a
   pub adds : Adding n times a i s
   pub cols_size : i ≤ length cols
   pub columns : Cols n a cols i
-
-pub record PairRowReady (n : ℕ) (zone pattern : List ℤ) (i : ℕ) : Type 0 where
-  pub taking : Taking n zone (pair_row n (bounds_in pattern) i)
-  pub limits : PatternIn n pattern
-  pub row : i < suc n

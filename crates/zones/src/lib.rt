@@ -1,21 +1,22 @@
 // Zones in memory: one more constraint in place, what a row of a preimage adds, what a zone has in common with a pattern.
 #![tactic(auto)]
 
-ghost use Rattle.std.specs.Prelude.{◌≡◌, true, suc, ◌+◌, ◌*◌, ◌≤◌, ◌<◌, nat_abs, length};
+ghost use Rattle.std.specs.Prelude.{◌≡◌, true, suc, ◌+◌, ◌*◌, ◌≤◌, ◌<◌, ℕ, nat_abs, length};
 ghost use Rattle.std.proofs.Math.Option.{some};
 ghost use Rattle.model.specs.Sizes.{most_times_at_once, zone_size};
-ghost use Rattle.model.specs.Bound.{plus, tighter};
+ghost use Rattle.model.specs.Bound.{Bound, plus, tighter};
 ghost use Rattle.model.specs.Matrix.{diagonal, everything};
 ghost use Rattle.model.specs.Pattern.{pattern_constraints};
 ghost use Rattle.model.specs.Search.{row_constraints};
 ghost use Rattle.model.specs.Conditions.{Small};
 ghost use Rattle.memory.specs.Numbers.{of_halves, bound_in, bounds_in, as_bound, Limit, Widest};
 ghost use Rattle.memory.specs.Conditions.{ZoneIn};
-ghost use Rattle.memory.specs.Matrices.{RowFilled, Relaxable, across, leaves, Left, limited, TakesOne, ConstrainReady};
+ghost use Rattle.memory.specs.Matrices.{RowFilled, Relaxable, across, leaves, Left, limited, Takes, TakesOne, ConstrainReady};
 ghost use Rattle.zones.specs.Conditions.{Taken, RowsReady, CommonReady};
 ghost use Rattle.zones.specs.Inner.{narrow_most, Narrow, RowNarrow, room_of_row, RowIn, WidthOf, ColumnsOf, beside, EntryReady, EntriesReady};
-ghost use Rattle.zones.specs.Inner.{RowMade, RelaxReady, Adding, AddedWithin, led, attains_by, keep_one, keep_both, images, pair_row};
-ghost use Rattle.zones.specs.Inner.{AttainsReady, Keeping, KeepsImages, PairRowReady};
+ghost use Rattle.zones.specs.Inner.{RowMade, RelaxReady, Adding, AddedWithin, led, attains_by, keep_one, keep_both, images};
+ghost use Rattle.zones.specs.Said.{said_row, said_all, Sayable, SaidLeft};
+ghost use Rattle.zones.specs.Inner.{AttainsReady, Keeping, KeepsImages};
 
 use ints::{Seconds, ZERO};
 use memory::{Halves, NONE, Number, Stored, bound_at, diagonal, pair_bound, place, put, time_at};
@@ -68,7 +69,8 @@ fn relaxed(old: i32, rest: i32, way: Halves, narrow: bool) -> i32
 }
 
 // Row i takes in what follows by way of row b, which is rest, place by place; way bounds x(i) - x(b). Beyond the row rest is blank, and
-// what stands there stays. The loop compiles to one over vectors of eight numbers.
+// what stands there stays. The loop compiles to one over vectors of eight numbers; it goes by index, since after a zip of iter_mut no proof knows what
+// the row holds.
 fn relax_entries(
     zone: &mut [i32],
     n: usize,
@@ -390,13 +392,35 @@ pub fn add_row<T: Constrained>(
     attain(part, times, n, i, s, false) && keep_images(part, times, zone, cols, n, i, s)
 }
 
-// Takes in what a pattern says of x(i) - x(j), for each j.
-fn common_row(zone: &mut [i32], pattern: &[i32], n: usize, i: usize) -> bool
-    requires { PairRowReady n zone.old pattern.now i }
-    ensures { Taken n zone.old (pair_row n (bounds_in pattern.now) i) result zone.new }
+// Takes in what bound says of x(i) - x(j), for each j. False where no times are left, and then what stands in zone is free.
+fn take_row<T: Constrained, F: Fn(usize, usize) -> Number + Copy>(
+    zone: &mut [T],
+    n: usize,
+    i: usize,
+    bound: F,
+) -> bool
+    requires { (i < suc n) × Sayable n T.limit T.largest (T.bounds_in zone.old) (F.pre bound) (F.post bound) (said_row n i) }
+    ensures { SaidLeft n T.limit T.largest (T.bounds_in zone.old) (F.pre bound) (F.post bound) (said_row n i) result (T.bounds_in zone.new) }
 {
     for j in 0..n + 1 {
-        if !take_in(zone, n, i, j, pair_bound(pattern, n, i, j)) {
+        if !take_in(zone, n, i, j, bound(i, j)) {
+            return false;
+        }
+    }
+    true
+}
+
+// Takes in what bound says of x(i) - x(j), for each i and j, likewise.
+pub fn take_all<T: Constrained, F: Fn(usize, usize) -> Number + Copy>(
+    zone: &mut [T],
+    n: usize,
+    bound: F,
+) -> bool
+    requires { Sayable n T.limit T.largest (T.bounds_in zone.old) (F.pre bound) (F.post bound) (said_all n) }
+    ensures { SaidLeft n T.limit T.largest (T.bounds_in zone.old) (F.pre bound) (F.post bound) (said_all n) result (T.bounds_in zone.new) }
+{
+    for i in 0..n + 1 {
+        if !take_row(zone, n, i, bound) {
             return false;
         }
     }
@@ -408,10 +432,5 @@ pub fn common(zone: &mut [i32], pattern: &[i32], n: usize) -> bool
     requires { CommonReady n zone.old pattern.now }
     ensures { Taken n zone.old (pattern_constraints n (bounds_in pattern.now)) result zone.new }
 {
-    for i in 0..n + 1 {
-        if !common_row(zone, pattern, n, i) {
-            return false;
-        }
-    }
-    true
+    take_all(zone, n, |i, j| pair_bound(pattern, n, i, j))
 }

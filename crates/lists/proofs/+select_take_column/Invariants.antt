@@ -11,7 +11,7 @@ abbrev pub decreases-select : goal.decreases-select
 decreases-select l = suc (steps l.pull.n l.i)
 
 abbrev pub decreases-take_column : goal.decreases-take_column
-decreases-take_column l = steps l.pull.n l.i
+decreases-take_column l = steps l.pull.n l.choice.row
 
 abbrev pub invariant-select-loop-s : goal.invariant-select-loop-s
 invariant-select-loop-s l =

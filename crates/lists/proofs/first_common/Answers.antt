@@ -14,17 +14,17 @@ use Rattle.lists.proofs.Looking.{looking_start, looking_done, zone_place, zone_j
 use Rattle.lists.proofs.first_common.Goals as goal
 
 pub loop-k-init : goal.loop-k-init
-loop-k-init c = looking_start c.args.n c.args.base c.args.count c.args.work.now c.args.pattern.now
+loop-k-init c = looking_start c.args.n c.args.list.base c.args.list.count c.args.work.now c.args.pattern.now
 
 pub common-requires : goal.common-requires
 common-requires c =
     let a = c.args in
     let size = c.zone_size-size.result in
-    let there : a.base + c.loop-k.k * size + size ≤ length a.work.now = rw c.zone_size-size.ensures (zone_place c.loop-k-test.true c.requires) in
+    let there : a.list.base + c.loop-k.k * size + size ≤ length a.work.now = rw c.zone_size-size.ensures (zone_place c.loop-k-test.true c.requires) in
     let room : size ≤ length c.loop-k.zone
     = omega (arith, zone_fits c.requires.meets.limits.departures, c.zone_size-size.ensures, c.loop-k-test.array_long) in
     let again = front_is _ _ room c.copy_from_slice.new.self c.copy_from_slice.auto.self in
-    let is = loaded size a.base c.loop-k.k a.work.now there a.n c.zone_size-size.ensures c.copy_from_slice.ensures.after in
+    let is = loaded size a.list.base c.loop-k.k a.work.now there a.n c.zone_size-size.ensures c.copy_from_slice.ensures.after in
     rw again (common_ready _ c.requires.meets (zone_joins c.loop-k-test.true c.requires is))
 
 pub start-requires : goal.start-requires
@@ -32,11 +32,11 @@ unfolding common
 start-requires c =
     let a = c.args in
     let size = c.zone_size-size.result in
-    let there : a.base + c.loop-k.k * size + size ≤ length a.work.now = rw c.zone_size-size.ensures (zone_place c.loop-k-test.true c.requires) in
+    let there : a.list.base + c.loop-k.k * size + size ≤ length a.work.now = rw c.zone_size-size.ensures (zone_place c.loop-k-test.true c.requires) in
     let room : size ≤ length c.loop-k.zone
     = omega (arith, zone_fits c.requires.meets.limits.departures, c.zone_size-size.ensures, c.loop-k-test.array_long) in
     let again = front_is _ _ room c.copy_from_slice.new.self c.copy_from_slice.auto.self in
-    let is = loaded size a.base c.loop-k.k a.work.now there a.n c.zone_size-size.ensures c.copy_from_slice.ensures.after in
+    let is = loaded size a.list.base c.loop-k.k a.work.now there a.n c.zone_size-size.ensures c.copy_from_slice.ensures.after in
     let left : Left (common a.n (bounds_in c.copy_from_slice.new.self) (bounds_in a.pattern.now)) c.common.result (bounds_in c.common.new.zone)
     = rw again at c.common.ensures in
     let room_left = front_room _ _ room c.copy_from_slice.new.self c.copy_from_slice.auto.self in
@@ -49,11 +49,11 @@ unfolding common found_by
 returns-then-common c =
     let a = c.args in
     let size = c.zone_size-size.result in
-    let there : a.base + c.loop-k.k * size + size ≤ length a.work.now = rw c.zone_size-size.ensures (zone_place c.loop-k-test.true c.requires) in
+    let there : a.list.base + c.loop-k.k * size + size ≤ length a.work.now = rw c.zone_size-size.ensures (zone_place c.loop-k-test.true c.requires) in
     let room : size ≤ length c.loop-k.zone
     = omega (arith, zone_fits c.requires.meets.limits.departures, c.zone_size-size.ensures, c.loop-k-test.array_long) in
     let again = front_is _ _ room c.copy_from_slice.new.self c.copy_from_slice.auto.self in
-    let is = loaded size a.base c.loop-k.k a.work.now there a.n c.zone_size-size.ensures c.copy_from_slice.ensures.after in
+    let is = loaded size a.list.base c.loop-k.k a.work.now there a.n c.zone_size-size.ensures c.copy_from_slice.ensures.after in
     let left : Left (common a.n (bounds_in c.copy_from_slice.new.self) (bounds_in a.pattern.now)) c.common.result (bounds_in c.common.new.zone)
     = rw again at c.common.ensures in
     let room_left = front_room _ _ room c.copy_from_slice.new.self c.copy_from_slice.auto.self in
@@ -69,11 +69,11 @@ unfolding common
 loop-k-preserved c =
     let a = c.args in
     let size = c.zone_size-size.result in
-    let there : a.base + c.loop-k.k * size + size ≤ length a.work.now = rw c.zone_size-size.ensures (zone_place c.loop-k-test.true c.requires) in
+    let there : a.list.base + c.loop-k.k * size + size ≤ length a.work.now = rw c.zone_size-size.ensures (zone_place c.loop-k-test.true c.requires) in
     let room : size ≤ length c.loop-k.zone
     = omega (arith, zone_fits c.requires.meets.limits.departures, c.zone_size-size.ensures, c.loop-k-test.array_long) in
     let again = front_is _ _ room c.copy_from_slice.new.self c.copy_from_slice.auto.self in
-    let is = loaded size a.base c.loop-k.k a.work.now there a.n c.zone_size-size.ensures c.copy_from_slice.ensures.after in
+    let is = loaded size a.list.base c.loop-k.k a.work.now there a.n c.zone_size-size.ensures c.copy_from_slice.ensures.after in
     let left : Left (common a.n (bounds_in c.copy_from_slice.new.self) (bounds_in a.pattern.now)) c.common.result (bounds_in c.common.new.zone)
     = rw again at c.common.ensures in
     looking_on c.loop-k-test.true c.loop-k.invariant is _ left c.if-common.false

@@ -23,10 +23,10 @@ pull_back-requires c =
     let a = c.args in
     let l = c.loop-k in
     let size = c.zone_size-size.result in
-    let there : a.source + l.k * size + size ≤ length l.work = rw c.zone_size-size.ensures (source_place c.requires l.invariant c.loop-k-test.true) in
+    let there : a.source.base + l.k * size + size ≤ length l.work = rw c.zone_size-size.ensures (source_place c.requires l.invariant c.loop-k-test.true) in
     let room : size ≤ length l.zone = omega (arith, zone_fits c.requires.sources.table.departures, c.zone_size-size.ensures, c.loop-k-test.array_long) in
     let again = front_is _ _ room c.copy_from_slice.new.self c.copy_from_slice.auto.self in
-    let is = loaded size a.source l.k l.work there a.n c.zone_size-size.ensures c.copy_from_slice.ensures.after
+    let is = loaded size a.source.base l.k l.work there a.making.n c.zone_size-size.ensures c.copy_from_slice.ensures.after
     ∙ source_same c.requires l.invariant c.loop-k-test.true in
     record {
       room = rw (lent_is a.goal l.work) (goal_room c.requires l.invariant);
@@ -41,10 +41,10 @@ returns-in_err-made c =
     let a = c.args in
     let l = c.loop-k in
     let size = c.zone_size-size.result in
-    let there : a.source + l.k * size + size ≤ length l.work = rw c.zone_size-size.ensures (source_place c.requires l.invariant c.loop-k-test.true) in
+    let there : a.source.base + l.k * size + size ≤ length l.work = rw c.zone_size-size.ensures (source_place c.requires l.invariant c.loop-k-test.true) in
     let room : size ≤ length l.zone = omega (arith, zone_fits c.requires.sources.table.departures, c.zone_size-size.ensures, c.loop-k-test.array_long) in
     let again = front_is _ _ room c.copy_from_slice.new.self c.copy_from_slice.auto.self in
-    let is = loaded size a.source l.k l.work there a.n c.zone_size-size.ensures c.copy_from_slice.ensures.after
+    let is = loaded size a.source.base l.k l.work there a.making.n c.zone_size-size.ensures c.copy_from_slice.ensures.after
     ∙ source_same c.requires l.invariant c.loop-k-test.true in
     let out = c.pull_back.new.list in
     let same : length out ≡ length (drop a.goal l.work) = c.pull_back.auto.list ∙ ap (λ (xs : List ℤ). length xs) (lent_is a.goal l.work) in
@@ -60,10 +60,10 @@ loop-k-preserved c =
     let a = c.args in
     let l = c.loop-k in
     let size = c.zone_size-size.result in
-    let there : a.source + l.k * size + size ≤ length l.work = rw c.zone_size-size.ensures (source_place c.requires l.invariant c.loop-k-test.true) in
+    let there : a.source.base + l.k * size + size ≤ length l.work = rw c.zone_size-size.ensures (source_place c.requires l.invariant c.loop-k-test.true) in
     let room : size ≤ length l.zone = omega (arith, zone_fits c.requires.sources.table.departures, c.zone_size-size.ensures, c.loop-k-test.array_long) in
     let again = front_is _ _ room c.copy_from_slice.new.self c.copy_from_slice.auto.self in
-    let is = loaded size a.source l.k l.work there a.n c.zone_size-size.ensures c.copy_from_slice.ensures.after
+    let is = loaded size a.source.base l.k l.work there a.making.n c.zone_size-size.ensures c.copy_from_slice.ensures.after
     ∙ source_same c.requires l.invariant c.loop-k-test.true in
     let out = c.pull_back.new.list in
     let same : length out ≡ length (drop a.goal l.work) = c.pull_back.auto.list ∙ ap (λ (xs : List ℤ). length xs) (lent_is a.goal l.work) in

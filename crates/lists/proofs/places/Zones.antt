@@ -1,5 +1,5 @@
 -- Zones at places of a list: when two are the same, and what changes where one place does.
-use Prim.Native.Nat.{ℕ, zero, suc, ◌+◌, ◌*◌, ◌≤◌, ◌<◌}
+use Prim.Native.Nat.{ℕ, zero, suc, ◌+◌, ◌*◌, ◌-◌, ◌≤◌, ◌<◌}
 use native.Mathlib.Omega.{arith}
 use native.Mathlib.Decide.{dec_lt, ℕ_discrete}
 use native.Mathlib.Nat.{mul-le-mul_right, suc-mul}
@@ -10,9 +10,9 @@ use lib.IntN.{ℤ, pos}
 use lib.ListN.{length, take, drop, get_or}
 use lib.Seq.{get_or-take, get_or-drop, ext_get_or}
 use lib.Seq.{paste}
-use mir.Syntax.{Width}
-use mir.Val.{SFits, to_z, of_z}
-use mir.ValLaws.{to_z-of_z}
+use Rattle.std.proofs.Common.{Option, Some, None, MatchOption}
+use Rattle.std.specs.List.{zip, AllWithin, HoldsAt}
+use Rattle.std.proofs.lemmas.Slice.Zip.{length-zip, get_or-zip}
 use Rattle.model.specs.Lists.{tabulate, any_of}
 use Rattle.model.specs.Bound as B
 use Rattle.model.specs.Bound.{same_z}
@@ -23,14 +23,11 @@ use Rattle.memory.specs.Numbers.{none_in, of_halves, bound_in, bounds_in}
 use Rattle.memory.proofs.InHalves.{same_number, not_none}
 use Rattle.memory.proofs.Places.{get_d_bounds}
 use Rattle.memory.specs.Side.{numbers_at, Elsewhere}
-use Rattle.memory.proofs.Side.{length_numbers, part_of_lem, beyond_same, stored_numbers}
+use Rattle.memory.proofs.Side.{length_numbers, lent_at, part_of_lem, beyond_same, stored_numbers}
 use Rattle.lists.specs.Lists.{zone_at, list_in}
-use Rattle.lists.specs.Comparing.{Comparing}
+use Rattle.lists.specs.Comparing.{Comparing, Other}
 
 -- ---- equal numbers
-pub same_bits : (w : Width) {a b : ℤ} → SFits w a → SFits w b → of_z w a ≡ of_z w b → a ≡ b
-same_bits w {a} {b} f g e = sym (to_z-of_z w a f) ∙ ap (to_z w) e ∙ to_z-of_z w b g
-
 -- equal bounds are equal numbers
 bound_in_injective : (a b : ℤ) → bound_in a ≡ bound_in b → a ≡ b
 unfolding bound_in
@@ -42,6 +39,13 @@ bound_in_injective a b e = go (same_z a (pos none_in)) (same_z b (pos none_in)) 
     go true false p q e = absurd (not_none b (sym e))
     go false true p q e = absurd (not_none a e)
     go false false p q e = same_number a b e
+
+-- two numbers that are the same, and two that are not
+abbrev pub Alike : ℤ × ℤ → Type 0
+Alike p = p.0 ≡ p.1
+
+abbrev pub Unlike : ℤ × ℤ → Type 0
+Unlike p = p.0 ≡ p.1 → ⊥
 
 -- ---- the numbers of a zone against those at place k
 -- the first p are the same
@@ -78,6 +82,33 @@ module _ {list : List ℤ} {k : ℕ} {zone : List ℤ} {size : ℕ} (c : Compari
           let bound = ap (λ (m : Matrix). get_or m p B.Bound.none) (same_matrix_true _ _ e) in
           let in_memory = sym (get_d_bounds zone p (omega arith)) ∙ bound ∙ get_d_bounds there p (omega (arith, there_long)) in
           absurd (other (bound_in_injective _ _ in_memory ∙ get_d_there p h))
+
+  -- by the first pair of numbers that are not the same
+  pairs_long : length (zip zone there) ≡ size
+  pairs_long =
+      let fits = c.fits in
+      length-zip zone there ∙ omega (arith, there_long)
+
+  pair_at : (p : ℕ) → p < size → get_or (zip zone there) p (pos 0, pos 0) ≡ (get_or zone p (pos 0), get_or list (k * size + p) (pos 0))
+  pair_at p h =
+      let fits = c.fits in
+      get_or-zip zone there p (pos 0, pos 0) (omega arith) (omega (arith, there_long)) ∙ ap (λ (b : ℤ). (get_or zone p (pos 0), b)) (get_d_there p h)
+
+  -- what position tells of the pairs
+  abbrev First : List (ℤ × ℤ) → Option ℕ → Type 0
+  First pairs r = MatchOption r (AllWithin Alike pairs 0 (length pairs))
+      (λ p. (p < length pairs) × HoldsAt Unlike pairs p × AllWithin Alike pairs 0 p)
+
+  first_pair : (r : Option ℕ) → First (zip zone there) r → Other size list k zone r
+  first_pair None same =
+      all_same (λ q h. rw (pair_at q h) at (same q (pos 0, pos 0) (omega arith) (omega (arith, pairs_long))))
+  first_pair (Some p) (low, other, _) =
+      let h : p < size = omega (arith, pairs_long) in
+      (h, one_other p h (rw (pair_at p h) at (other (pos 0, pos 0))))
+
+  -- the same, with the numbers of place k as a slice hands them
+  pub first_lent : (r : Option ℕ) → First (zip zone (take (k * size + size - k * size) (drop (k * size) list))) r → Other size list k zone r
+  first_lent r first = first_pair r (rw (lent_at size k list) at first)
 
 -- one of them passes the test
 pub any_found : {X : Type 0} (t : X → Bool) (f : ℕ → X) (m first k : ℕ) → first ≤ k → k < m + first → t (f k) ≡ true → any_of t (tabulate m first f) ≡ true

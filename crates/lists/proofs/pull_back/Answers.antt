@@ -20,13 +20,13 @@ select-requires c =
     let a = c.args in
     let p = c.requires in
     let size = c.zone_size-size.result in
-    let inside : size ≤ length a.seen.now = omega (arith, set_room a.n, c.zone_size-size.ensures, p.seen_size) in
+    let inside : size ≤ length a.seen.now = omega (arith, set_room a.making.n, c.zone_size-size.ensures, p.seen_size) in
     let table_room : size ≤ most_numbers = omega (arith, zone_fits p.sources.table.departures, c.zone_size-size.ensures) in
-    let long : size_seen a.n ≤ length (c.everything.new.zone ++ drop size a.seen.now)
+    let long : size_seen a.making.n ≤ length (c.everything.new.zone ++ drop size a.seen.now)
     = rw (length_front a.seen.now c.everything.new.zone size c.everything.auto.zone) p.seen_size in
-    let first : zone_at (zone_size a.n) (c.everything.new.zone ++ drop size a.seen.now) 0 ≡ everything (suc a.n)
+    let first : zone_at (zone_size a.making.n) (c.everything.new.zone ++ drop size a.seen.now) 0 ≡ everything (suc a.making.n)
     = rw (← c.zone_size-size.ensures) (front_at _ _ inside _ c.everything.auto.zone ∙ c.everything.ensures) in
-    let tabled : Tabled a.n a.times.now a.zone.now c.needs.new.table = record {
+    let tabled : Tabled a.making.n a.making.times.now a.zone.now c.needs.new.table = record {
       inside = record { few = p.source.few; size = c.needs.auto.table ∙ front_long _ _ table_room ∙ c.zone_size-size.ensures };
       is = c.needs.ensures;
     } in
@@ -42,9 +42,9 @@ returns c =
     let a = c.args in
     let p = c.requires in
     let size = c.zone_size-size.result in
-    let inside : size ≤ length a.seen.now = omega (arith, set_room a.n, c.zone_size-size.ensures, p.seen_size) in
-    let long : size_seen a.n ≤ length (c.everything.new.zone ++ drop size a.seen.now)
+    let inside : size ≤ length a.seen.now = omega (arith, set_room a.making.n, c.zone_size-size.ensures, p.seen_size) in
+    let long : size_seen a.making.n ≤ length (c.everything.new.zone ++ drop size a.seen.now)
     = rw (length_front a.seen.now c.everything.new.zone size c.everything.auto.zone) p.seen_size in
-    let first : zone_at (zone_size a.n) (c.everything.new.zone ++ drop size a.seen.now) 0 ≡ everything (suc a.n)
+    let first : zone_at (zone_size a.making.n) (c.everything.new.zone ++ drop size a.seen.now) 0 ≡ everything (suc a.making.n)
     = rw (← c.zone_size-size.ensures) (front_at _ _ inside _ c.everything.auto.zone ∙ c.everything.ensures) in
     rw (preimages p.sources p.source _ long first) at c.select.ensures.held

@@ -18,15 +18,15 @@ loop-p-init c = (c.requires, moving_start c.requires)
 pub shifted-requires : goal.shifted-requires
 shifted-requires c =
     let i = c.loop-p.invariant in
-    let size = ap (◌*◌ c.args.count) c.zone_size.ensures in
-    let raw : SFits w32 (get_or c.loop-p.work (c.args.base + c.loop-p.p) (pos 0)) = search rules in
+    let size = ap (◌*◌ c.args.list.count) c.zone_size.ensures in
+    let raw : SFits w32 (get_or c.loop-p.work (c.args.list.base + c.loop-p.p) (pos 0)) = search rules in
     (c.change.ensures.small, rw (to_z-of_z w32 _ raw, i.1.left c.loop-p.p (omega arith), c.change.ensures.is) (small_there i.0 _ (omega arith)))
 
 pub loop-p-preserved : goal.loop-p-preserved
 loop-p-preserved c =
     let i = c.loop-p.invariant in
-    let size = ap (◌*◌ c.args.count) c.zone_size.ensures in
-    let raw : SFits w32 (get_or c.loop-p.work (c.args.base + c.loop-p.p) (pos 0)) = search rules in
+    let size = ap (◌*◌ c.args.list.count) c.zone_size.ensures in
+    let raw : SFits w32 (get_or c.loop-p.work (c.args.list.base + c.loop-p.p) (pos 0)) = search rules in
     let stored : SFits w32 c.shifted.result = search rules in
     let e = rw (to_z-of_z w32 _ raw, i.1.left c.loop-p.p (omega arith), c.change.ensures.is) at c.shifted.ensures in
     (i.0, moving_more i.0 i.1 (omega arith) _ (rw (to_z-of_z w32 _ stored) e))
@@ -35,6 +35,6 @@ pub returns : goal.returns
 returns c =
     let a = c.args in
     let i = c.loop-p.invariant in
-    let size = ap (◌*◌ a.count) c.zone_size.ensures in
-    let all : c.loop-p.p ≡ a.count * zone_size a.n = omega arith in
+    let size = ap (◌*◌ a.list.count) c.zone_size.ensures in
+    let all : c.loop-p.p ≡ a.list.count * zone_size a.n = omega arith in
     moving_done i.0 (rw all at i.1)

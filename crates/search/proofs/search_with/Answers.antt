@@ -10,7 +10,7 @@ use Rattle.search.proofs.Looked.{meeting, source_same, found_some, found_none, a
 use Rattle.search.proofs.Searching.{target_meets, zone_room, begun, building, looking, ended_full, ended_met, onward, both_lists, moving_on, moved_answer}
 use Rattle.search.proofs.Searching as search
 use Rattle.search.proofs.search_with.Goals as goal
-use Rattle.search.proofs.search_with.Goals.{else-loop-k-test, then-loop-k-test+then-count-eq0}
+use Rattle.search.proofs.search_with.Goals.{else-loop-k-test, then-loop-k-test+then-list-eq0}
 
 pub first_list-count-requires : goal.first_list-count-requires
 first_list-count-requires c = let q = c.requires.0 in (target_meets q, zone_room q)
@@ -20,12 +20,12 @@ unfolding lists
 loop-k-init c =
     begun c.requires.0 c.first_list-count.auto.work c.first_list-count.ensures.list c.first_list-count.ensures.few
 
-pub next_list-made-requires : goal.next_list-made-requires
-next_list-made-requires c =
+pub next_list-requires : goal.next_list-requires
+next_list-requires c =
     let q = c.requires.0 in
     let r = c.loop-k.invariant in
     let more = c.loop-k-test.true in
-    let zone : 1 ≤ c.loop-k.count = omega (arith, c.if-count-eq0.false) in
+    let zone : 1 ≤ c.loop-k.list.count = omega (arith, c.if-list-eq0.false) in
     rw c.zone_size.ensures (building q r zone more (omega (arith, c.requires.1, c.loop-k.auto.seen)))
 
 pub returns-in_default : goal.returns-in_default
@@ -34,19 +34,19 @@ returns-in_default c =
     let q = c.requires.0 in
     let r = c.loop-k.invariant in
     let more = c.loop-k-test.true in
-    let zone : 1 ≤ c.loop-k.count = omega (arith, c.if-count-eq0.false) in
+    let zone : 1 ≤ c.loop-k.list.count = omega (arith, c.if-list-eq0.false) in
     let full = rw c.zone_size.ensures at c.in_default.ensures in
-    rw (ended_full q r zone more c.next_list-made.new.work full.list e, add-one c.loop-k.k) refl
+    rw (ended_full q r zone more c.next_list.new.work full.list e, add-one c.loop-k.k) refl
 
 pub first_common-requires : goal.first_common-requires
 first_common-requires c =
     let q = c.requires.0 in
     let r = c.loop-k.invariant in
     let more = c.loop-k-test.true in
-    let zone : 1 ≤ c.loop-k.count = omega (arith, c.if-count-eq0.false) in
+    let zone : 1 ≤ c.loop-k.list.count = omega (arith, c.if-list-eq0.false) in
     let b = building q r zone more {seen = c.loop-k.seen} (omega (arith, c.requires.1, c.loop-k.auto.seen)) in
     let next = rw c.zone_size.ensures at c.in-Some.ensures in
-    rw c.zone_size.ensures (meeting b c.next_list-made.auto.work (looking q r zone more) next.list)
+    rw c.zone_size.ensures (meeting b c.next_list.auto.work (looking q r zone more) next.list)
 
 pub returns-in-Some-first_common : goal.returns-in-Some-first_common
 returns-in-Some-first_common c =
@@ -55,8 +55,8 @@ returns-in-Some-first_common c =
     let q = c.requires.0 in
     let r = c.loop-k.invariant in
     let more = c.loop-k-test.true in
-    let zone : 1 ≤ c.loop-k.count = omega (arith, c.if-count-eq0.false) in
-    let after = c.next_list-made.new.work in
+    let zone : 1 ≤ c.loop-k.list.count = omega (arith, c.if-list-eq0.false) in
+    let after = c.next_list.new.work in
     let next = rw c.zone_size.ensures at c.in-Some.ensures in
     let (z, found, times) = found_some t.n t.parts _ (rw c.zone_size.ensures at c.in-Some-first_common.ensures) in
     answer_met times (add-one c.loop-k.k) (ended_met q r zone more after next.list found e)
@@ -67,12 +67,12 @@ find_move-requires c =
     let q = c.requires.0 in
     let r = c.loop-k.invariant in
     let more = c.loop-k-test.true in
-    let zone : 1 ≤ c.loop-k.count = omega (arith, c.if-count-eq0.false) in
+    let zone : 1 ≤ c.loop-k.list.count = omega (arith, c.if-list-eq0.false) in
     let b = building q r zone more {seen = c.loop-k.seen} (omega (arith, c.requires.1, c.loop-k.auto.seen)) in
-    let after = c.next_list-made.new.work in
+    let after = c.next_list.new.work in
     let next = rw c.zone_size.ensures at c.in-Some.ensures in
     let none = found_none t.n t.parts _ (rw c.zone_size.ensures at c.in_default-first_common.ensures) in
-    let on = onward q r zone more after next.list none c.next_list-made.auto.work (source_same after b next) in
+    let on = onward q r zone more after next.list none c.next_list.auto.work (source_same after b next) in
     rw c.zone_size.ensures (both_lists q r zone more on, zone)
 
 pub move_on-requires : goal.move_on-requires
@@ -81,12 +81,12 @@ move_on-requires c =
     let q = c.requires.0 in
     let r = c.loop-k.invariant in
     let more = c.loop-k-test.true in
-    let zone : 1 ≤ c.loop-k.count = omega (arith, c.if-count-eq0.false) in
+    let zone : 1 ≤ c.loop-k.list.count = omega (arith, c.if-list-eq0.false) in
     let b = building q r zone more {seen = c.loop-k.seen} (omega (arith, c.requires.1, c.loop-k.auto.seen)) in
-    let after = c.next_list-made.new.work in
+    let after = c.next_list.new.work in
     let next = rw c.zone_size.ensures at c.in-Some.ensures in
     let none = found_none t.n t.parts _ (rw c.zone_size.ensures at c.in_default-first_common.ensures) in
-    let on = onward q r zone more after next.list none c.next_list-made.auto.work (source_same after b next) in
+    let on = onward q r zone more after next.list none c.next_list.auto.work (source_same after b next) in
     let moves = rw c.zone_size.ensures at c.in-Some-find_move.ensures in
     rw (c.zone_size.ensures, add-one c.loop-k.k) (moving_on q r zone more on _ moves.is moves.small)
 
@@ -97,12 +97,12 @@ returns-in-Some-find_move c =
     let q = c.requires.0 in
     let r = c.loop-k.invariant in
     let more = c.loop-k-test.true in
-    let zone : 1 ≤ c.loop-k.count = omega (arith, c.if-count-eq0.false) in
+    let zone : 1 ≤ c.loop-k.list.count = omega (arith, c.if-list-eq0.false) in
     let b = building q r zone more {seen = c.loop-k.seen} (omega (arith, c.requires.1, c.loop-k.auto.seen)) in
-    let after = c.next_list-made.new.work in
+    let after = c.next_list.new.work in
     let next = rw c.zone_size.ensures at c.in-Some.ensures in
     let none = found_none t.n t.parts _ (rw c.zone_size.ensures at c.in_default-first_common.ensures) in
-    let on = onward q r zone more after next.list none c.next_list-made.auto.work (source_same after b next) in
+    let on = onward q r zone more after next.list none c.next_list.auto.work (source_same after b next) in
     let moves = rw c.zone_size.ensures at c.in-Some-find_move.ensures in
     let rest = rw (add-one c.loop-k.k, c.zone_size.ensures) at c.move_on.ensures in
     rest ∙ ap answered (sym (moved_answer q r zone more on _ moves.is e))
@@ -113,24 +113,24 @@ loop-k-preserved c =
     let q = c.requires.0 in
     let r = c.loop-k.invariant in
     let more = c.loop-k-test.true in
-    let zone : 1 ≤ c.loop-k.count = omega (arith, c.if-count-eq0.false) in
+    let zone : 1 ≤ c.loop-k.list.count = omega (arith, c.if-list-eq0.false) in
     let b = building q r zone more {seen = c.loop-k.seen} (omega (arith, c.requires.1, c.loop-k.auto.seen)) in
-    let after = c.next_list-made.new.work in
+    let after = c.next_list.new.work in
     let next = rw c.zone_size.ensures at c.in-Some.ensures in
     let none = found_none t.n t.parts _ (rw c.zone_size.ensures at c.in_default-first_common.ensures) in
-    let on = onward q r zone more after next.list none c.next_list-made.auto.work (source_same after b next) in
+    let on = onward q r zone more after next.list none c.next_list.auto.work (source_same after b next) in
     rw (c.zone_size.ensures, add-one c.loop-k.k) on.reached
 
-pub returns-then-count-eq0-2 : goal.returns-then-count-eq0-2
-returns-then-count-eq0-2 c =
-    rw (search.dried c.requires.0 c.loop-k.invariant c.if-count-eq0-2.true (past_by c.args.task.end)) refl
+pub returns-then-list-eq0-2 : goal.returns-then-list-eq0-2
+returns-then-list-eq0-2 c =
+    rw (search.dried c.requires.0 c.loop-k.invariant c.if-list-eq0-2.true (past_by c.args.task.end)) refl
 
 -- a zone is left, so the loop ended past the last cycle
 pub returns : goal.returns
 returns c =
-    let zone : 1 ≤ c.loop-k.count = omega (arith, c.if-count-eq0-2.false) in
+    let zone : 1 ≤ c.loop-k.list.count = omega (arith, c.if-list-eq0-2.false) in
     let last : c.args.task.cycles.0 ≤ c.loop-k.k = elim c.loop-k-test.branch [
       | else-loop-k-test w ↦ w.loop-k-test.false
-      | then-loop-k-test+then-count-eq0 w ↦ absurd (c.if-count-eq0-2.false w.if-count-eq0.true)
+      | then-loop-k-test+then-list-eq0 w ↦ absurd (c.if-list-eq0-2.false w.if-list-eq0.true)
     ] in
     c.answer.ensures ∙ ap answered (sym (search.past c.requires.0 c.loop-k.k c.loop-k.invariant zone last (past_by c.args.task.end)))

@@ -5,4 +5,4 @@ use Rattle.search.proofs.search_with.Given as goal
 
 abbrev pub invariant-loop-k : goal.invariant-loop-k
 invariant-loop-k l =
-    Reached l.task.n l.task.capacity l.task.cycles.0 (length l.fn.work) l.task.times.now l.task.start.now l.task.target.now l.work l.count l.source l.k
+    Reached l.task.n l.task.capacity l.task.cycles.0 (length l.fn.work) l.task.times.now l.task.start.now l.task.target.now l.work l.list.count l.list.base l.k

@@ -14,4 +14,4 @@ returns-then-s-eq0 c = rw c.if-s-eq0.true
 
 pub returns : goal.returns
 returns c =
-    sym (clocked_at _ c.args.s (omega arith) ∙ get_or-map (λ x. x.0) c.args.times _ (seconds (pos 0)))
+    sym (clocked_at _ c.args.s (omega arith) ∙ get_or-map (λ x. x.0) c.args.times.now _ (seconds (pos 0)))

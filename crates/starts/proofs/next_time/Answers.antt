@@ -15,21 +15,22 @@ loop-s-init c = (tightest_start _ _ _, tightest_start _ _ _)
 
 pub add-requires : goal.add-requires
 add-requires c =
-    let near : nat_abs c.clocked-x.result.0 ≤ c.args.t * Largest = rw c.clocked-x.ensures (c.requires.small _ (omega arith)) in
-    rw c.upto.ensures (small_mono (omega (arith, c.requires.to_n, c.requires.departures.few)) (term_small _ c.clocked-x.result.0 c.bound_at.ensures.small near))
+    let near : nat_abs c.clocked-x.result.0 ≤ c.args.t * Largest = rw c.clocked-x.ensures (c.requires.0.small _ (omega arith)) in
+    rw c.upto.ensures (small_mono (omega (arith, c.requires.0.to_n, c.requires.0.departures.few))
+    (term_small _ c.clocked-x.result.0 c.bound_at.ensures.small near))
 
 pub add-requires-in-loop-s : goal.add-requires-in-loop-s
 add-requires-in-loop-s c =
-    let near : nat_abs c.clocked-x.result.0 ≤ c.args.t * Largest = rw c.clocked-x.ensures (c.requires.small _ (omega arith)) in
+    let near : nat_abs c.clocked-x.result.0 ≤ c.args.t * Largest = rw c.clocked-x.ensures (c.requires.0.small _ (omega arith)) in
     let back : nat_abs c.neg.result.0 ≤ c.args.t * Largest = rw c.neg.ensures (neg_small c.clocked-x.result.0 near) in
     rw c.upto-in-loop-s.ensures
-    (small_mono (omega (arith, c.requires.to_n, c.requires.departures.few)) (term_small _ c.neg.result.0 c.bound_at-in-loop-s.ensures.small back))
+    (small_mono (omega (arith, c.requires.0.to_n, c.requires.0.departures.few)) (term_small _ c.neg.result.0 c.bound_at-in-loop-s.ensures.small back))
 
 pub loop-s-preserved : goal.loop-s-preserved
 loop-s-preserved c =
     let inv = c.loop-s.invariant in
     let h : 1 ≤ c.loop-s.s = omega arith in
-    let near : nat_abs c.clocked-x.result.0 ≤ c.args.t * Largest = rw c.clocked-x.ensures (c.requires.small _ (omega arith)) in
+    let near : nat_abs c.clocked-x.result.0 ≤ c.args.t * Largest = rw c.clocked-x.ensures (c.requires.0.small _ (omega arith)) in
     let back : nat_abs c.neg.result.0 ≤ c.args.t * Largest = rw c.neg.ensures (neg_small c.clocked-x.result.0 near) in (
       rw (c.tighter-early.ensures, c.add-in-loop-s.ensures, c.upto-in-loop-s.ensures)
           (tightest_step inv.0 _ c.neg.result.0 h c.bound_at-in-loop-s.ensures.small back
@@ -41,7 +42,7 @@ loop-s-preserved c =
 
 pub greatest_or-requires : goal.greatest_or-requires
 greatest_or-requires c =
-    let few : c.args.t ≤ 15 = omega (arith, c.requires.to_n, c.requires.departures.few) in
+    let few : c.args.t ≤ 15 = omega (arith, c.requires.0.to_n, c.requires.0.departures.few) in
     (small_mono (omega arith) c.loop-s.invariant.0.small, small_mono (omega arith) c.loop-s.invariant.1.small)
 
 pub returns : goal.returns

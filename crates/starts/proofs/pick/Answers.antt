@@ -8,7 +8,7 @@ loop-t-init c = picking_start _ _ _
 
 pub next_time-requires : goal.next_time-requires
 next_time-requires c =
-    record { departures = c.requires.0; zone = c.requires.1; to_n = omega arith; small = times_small c.loop-t.invariant }
+    (record { departures = c.requires.0; zone = c.requires.1; to_n = omega arith; small = times_small c.loop-t.invariant }, omega (arith, c.requires.0.few))
 
 pub loop-t-preserved : goal.loop-t-preserved
 loop-t-preserved c =

@@ -1,12 +1,16 @@
 -- The zone's bounds in parts are taken in to all times.
-use Prim.Native.Nat.{ℕ}
+use borrow.Author.Rules.{rules}
+use Prim.Native.Nat.{ℕ, suc}
 use mathlib.Core.Path.{◌≡◌, refl, sym, ap, ◌∙◌}
 use mathlib.Core.List.{List, map}
 use lib.IntN.{ℤ}
 use lib.ListN.{take}
 use Rattle.model.specs.Bound.{scale, whole}
 use Rattle.model.specs.Sizes.{zone_size}
+use Rattle.model.specs.Matrix.{entry}
+use Rattle.model.specs.Search.{bounds_of}
 use Rattle.memory.specs.Numbers as Memory
+use Rattle.memory.proofs.Leaving.{left_surely}
 use Rattle.memory.proofs.Arrays.{part_long, part_zone, back_is, back_long}
 use Rattle.starts.specs.Numbers.{bounds_in}
 use Rattle.starts.specs.Conditions.{PartsOf, StartReady}
@@ -19,17 +23,26 @@ there : {n size parts : ℕ} {zone bounds : List ℤ} → size ≡ zone_size n �
 there {bounds} e r p = ap (λ (k : ℕ). bounds_in (take k bounds)) (e ∙ sym r.source.size) ∙ p.is
 
 pub take_all-requires : goal.take_all-requires
+unfolding bounds_of
 take_all-requires c =
     let size = c.zone_size-size.ensures in
     let b = c.in_parts-bounds.ensures in
     let r = c.requires in
-    all_ready _ (bounds_ready r _ (there size r b) (part_zone r.departures size c.in_parts-bounds.result b.long)) c.everything.ensures
+    let a = all_ready _ (bounds_ready r _ (there size r b) (part_zone r.departures size c.in_parts-bounds.result b.long)) c.everything.ensures in (
+      entry (suc c.args.n) (bounds_in (take c.zone_size-size.result c.in_parts-bounds.result)),
+      record { taking = a.taking; asks = λ i j hi hj. search rules; tells = λ i j x hi hj e. search rules },
+    )
 
 pub returns : goal.returns
+unfolding bounds_of
 returns c =
     let size = c.zone_size-size.ensures in
+    let b = c.in_parts-bounds.ensures in
     let r = c.requires in
+    let a = all_ready _ (bounds_ready r _ (there size r b) (part_zone r.departures size c.in_parts-bounds.result b.long)) c.everything.ensures in
+    let q = c.take_all.ensures (entry (suc c.args.n) (bounds_in (take c.zone_size-size.result c.in_parts-bounds.result)))
+    (record { taking = a.taking; asks = λ i j hi hj. search rules; tells = λ i j x hi hj e. search rules }) in
     let out = c.take_all.new.zone in
-    let left = wholes_are r _ (there size r c.in_parts-bounds.ensures) (rw c.everything.ensures at c.take_all.ensures) in
+    let left = wholes_are r _ (there size r b) (rw c.everything.ensures at (left_surely q a.times.is)) in
     let same = c.take_all.auto.zone ∙ c.everything.auto.zone ∙ part_long r.departures size _ refl in
     record { is = rw (back_is r.departures size _ refl out same) left; long = back_long r.departures size _ refl out same }
