@@ -52,7 +52,7 @@ pub fn in_parts(times: &[i32], parts: usize) -> [i64; TIMES]
 }
 
 // Adds to part what row i adds with column s for the zone; cols holds the columns of rows 0 to i - 1. False where no times are left, and then what stands in
-// part is free.
+// part is free. One line, as add_row of zones is: each says the constraints of its own definition, which one function over both would not.
 fn add_row(
     part: &mut [i64],
     table: &[i64],

@@ -44,7 +44,7 @@ loop-a-preserved-in_default c =
     let ts = c.args.first.now in
     let us = c.args.second.now in
     let l = c.loop-a in
-    let p = pair c.before.before.before in
+    let p = pair (goal.at.loop-a-preserved-in_default c).In-Some in
     let first_fits : SFits w32 c.in-Some.a.now = search rules in
     let none = rw (to_z-of_z w32 _ first_fits) at (blank_in c.time.ensures c.in_default.is) in
     rw (length_push l.yielded (c.in-Some.a, c.in-Some.b))
@@ -56,7 +56,7 @@ loop-a-preserved c =
     let ts = c.args.first.now in
     let us = c.args.second.now in
     let l = c.loop-a in
-    let p = pair c.before.before.before.before.before.before in
+    let p = pair (goal.at.loop-a-preserved c).In-Some in
     let second_fits : SFits w32 c.in-Some.b.now = search rules in
     let none = rw (to_z-of_z w32 _ second_fits) at (blank_in c.time-in-loop-a.ensures c.in_default-time.is) in
     rw (length_push l.yielded (c.in-Some.a, c.in-Some.b))
@@ -71,7 +71,7 @@ returns-in-Some-time-2 c =
     let ts = c.args.first.now in
     let us = c.args.second.now in
     let l = c.loop-a in
-    let p = pair c.before.before.before.before.before.before.before in
+    let p = pair (goal.at.returns-in-Some-time-2 c).In-Some in
     let first_fits : SFits w32 c.in-Some.a.now = search rules in
     let second_fits : SFits w32 c.in-Some.b.now = search rules in
     let a = rw (to_z-of_z w32 _ first_fits) at (seconds_in c.time.ensures c.in-Some-time.is) in
