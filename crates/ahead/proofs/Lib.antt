@@ -2,3 +2,4 @@ pub mod Leaving
 pub mod Needed
 pub mod Keeping
 mod Tabled
+pub mod Ranges

@@ -1,24 +1,29 @@
 -- The times of a row, the clock's among them, and what a row asks.
-use Prim.Native.Nat.{ℕ, zero, suc, ◌+◌, ◌-◌, ◌≤◌}
+use Prim.Native.Nat.{ℕ, zero, suc, ◌+◌, ◌-◌, ◌≤◌, ◌<◌}
 use native.Mathlib.Omega.{arith}
 use mathlib.Core.Path.{◌≡◌, refl, sym, ap, ap₂, ◌∙◌}
 use mathlib.Core.Bool.{false, true}
 use mathlib.Core.List.{List}
 use lib.IntN.{ℤ, pos, nat_abs, ◌-ℤ◌}
 use Rattle.ints.proofs.Integers.{impossible, up, dn, ints, sub_ud, pos_ud, abs_ud}
+use lib.ListN.{get_or}
 use Rattle.std.proofs.Common.{is_some, Some, None}
 use Rattle.ints.specs.declared.Seconds.{Seconds}
 use Rattle.model.specs.Bound as B
 use Rattle.model.specs.Bound.{Bound, most, plus, tighter}
 use Rattle.model.specs.Network.{Time, blank, secs, time, secs_of}
 use Rattle.model.specs.Faults.{Entry, time_of}
-use Rattle.model.specs.Search.{tightest}
-use Rattle.model.specs.Conditions.{Column, Small, free, tightest_of}
+use Rattle.model.specs.Search.{chosen, tightest}
+use Rattle.model.specs.Conditions.{Column, Small, free, sized, tightest_of}
 use Rattle.model.proofs.Bounds.{tighter_either}
+use Rattle.model.proofs.Selections.{chosen_fits}
 use Rattle.model.proofs.Tabulated.{from, from_next, from_end, from_first}
-use Rattle.memory.specs.Numbers.{InMemory}
-use Rattle.memory.specs.Conditions.{TimeRead}
+use Rattle.memory.specs.declared.Number.{Number}
+use Rattle.memory.specs.Numbers.{as_bound, InMemory}
+use Rattle.memory.specs.Conditions.{TableIn, ZoneIn, TimeRead, ReadWithin}
+use Rattle.zones.specs.Inner.{choice, AddedWithin}
 use Rattle.ahead.specs.Needs.{row_time, asks, NeedMost}
+use Rattle.ahead.specs.Outlook.{LookingAt, KnownRows}
 
 module _ (n : ℕ) (a : List Time) where
   -- the clock's, and those of its column
@@ -79,9 +84,27 @@ module _ {n : ℕ} {a : List Time} {i j : ℕ} {r : Entry Seconds} (read : TimeR
       go None h e = impossible cc
       go (Some x) h e = record { from_one = l; to_n = u; value = x.0; is = sym h }
 
-pub less_nothing : (v : ℤ) → v -ℤ pos 0 ≡ v
+less_nothing : (v : ℤ) → v -ℤ pos 0 ≡ v
 unfolding up dn
 less_nothing v = omega (ints, sub_ud v (pos 0), pos_ud 0)
+
+-- what a column adds, as a bound
+pub own_read : {n : ℕ} {a : List Time} {i s : ℕ} {r : Seconds} (own : Number) → AddedWithin InMemory n a i s r → as_bound own ≡ most (r.0 -ℤ pos 0)
+    → ReadWithin InMemory (most (chosen n a i s)) own
+own_read own added e =
+    let is = e ∙ ap most (less_nothing _) in
+    record { is = is ∙ ap most added.is; small = rw is (sized added.small) }
+
+-- the column of a row before
+pub known_at : {n i : ℕ} {part times : List ℤ} {cols : List ℕ} → TableIn n times → ZoneIn n part × KnownRows n times cols i → (l : ℕ) → l < i
+    → LookingAt n part times (choice l (get_or cols l 0))
+known_at table (set, known) l h =
+    let column = known.columns l h in
+    record {
+      set = set;
+      adds = record { table = table; row = omega (arith, known.to_end); column = column };
+      column = omega (arith, chosen_fits column);
+    }
 
 -- the least of what is asked, from row o on
 pub record Least (n : ℕ) (f : ℕ → Bound) (o : ℕ) (b : Bound) : Type 0 where

@@ -37,11 +37,14 @@ NeedMost = InMemory + InMemory
 abbrev pub needed : ℕ → List Time → Matrix → Choice → ℕ → Bound
 needed n a ns c j = plus (entry (suc n) ns c.row j) (most (chosen n a c.row c.column))
 
--- for some j no time of part is
+-- no time of part is; and so it is for some j
+abbrev pub Beyond : ℕ → List Time → Matrix → Matrix → Choice → ℕ → Type 0
+Beyond n a ns part c j = negative (plus (entry (suc n) part c.column j) (needed n a ns c j)) ≡ true
+
 pub record Unfit (n : ℕ) (a : List Time) (ns part : Matrix) (c : Choice) : Type 0 where
   pub at : ℕ
   pub to_n : at ≤ n
-  pub beyond : negative (plus (entry (suc n) part c.column at) (needed n a ns c at)) ≡ true
+  pub beyond : Beyond n a ns part c at
 
 -- it is so of the column of a row before row i
 pub record UnfitBefore (n : ℕ) (a : List Time) (ns part : Matrix) (cols : List ℕ) (i : ℕ) : Type 0 where

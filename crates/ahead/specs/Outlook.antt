@@ -8,7 +8,7 @@ use Rattle.model.specs.Network.{Time, scale_time}
 use Rattle.model.specs.Search.{rows_constraints}
 use Rattle.model.specs.Conditions.{Closed, Cols, Selection, Before, image}
 use Rattle.memory.specs.Numbers.{times_in}
-use Rattle.memory.specs.Conditions.{TableIn, ZoneIn}
+use Rattle.memory.specs.Conditions.{ZoneIn}
 use Rattle.zones.specs.declared.Choice.{Choice}
 use Rattle.zones.specs.Inner.{Adds}
 
@@ -36,21 +36,9 @@ pub record Outlook (n : ℕ) (a : List Time) (d part : Matrix) (cols : List ℕ)
   pub kept : Kept n a d part i
 
 -- ---- the conditions
--- a table and a zone in memory, and a row
-pub record Tabling (n : ℕ) (times zone : List ℤ) (r : ℕ) : Type 0 where
-  pub table : TableIn n times
-  pub source : ZoneIn n zone
-  pub row : r ≤ n
-
--- a set, a table of needs and the times
-pub record Looking (n : ℕ) (part needs times : List ℤ) : Type 0 where
-  pub table : TableIn n times
+-- a set and a column, or the columns of rows 0 to i - 1
+pub record LookingAt (n : ℕ) (part times : List ℤ) (c : Choice) : Type 0 where
   pub set : ZoneIn n part
-  pub needs_in : ZoneIn n needs
-
--- and a column, or the columns of rows 0 to i - 1
-pub record LookingAt (n : ℕ) (part needs times : List ℤ) (c : Choice) : Type 0 where
-  pub looking : Looking n part needs times
   pub adds : Adds n times c.row c.column
   pub column : c.column ≤ n
 

@@ -51,7 +51,7 @@ fn loss(case: &Case) -> Result<(), Fault>
 }
 
 // A case in the old form to the wide form: the bytes in front of the output, and how many they are. What stands behind them stays as it was; on a fault
-// everything does.
+// everything does. One function for any two forms would have to ask that neither is longer than the wide one; C and the documents name the two.
 #[tactic(auto, using(crate::proofs::Given::givens))]
 pub fn to_wide(bytes: &[u8], out: &mut [u8]) -> Result<usize, Fault>
     ensures { ConvertGiven old wide bytes.now out.old result out.new }

@@ -11,6 +11,8 @@ use lib.IntN.{ℤ}
 use lib.ListN.{length, take, drop}
 use lib.Seq.{take_at}
 use Rattle.std.specs.Prelude.{Ok}
+use Rattle.std.specs.declared.ops.ControlFlow.{ControlFlow}
+use Rattle.std.specs.declared.ops.ControlFlow.TheVariants.{Continue, Break}
 use Rattle.model.specs.declared.Verdict.TheVariants as verdict
 use Rattle.model.specs.Answers.{cycle_number}
 use Rattle.model.specs.Sizes.{most_departures, most_numbers, table_size, zone_size}
@@ -27,8 +29,8 @@ use Rattle.decisions.specs.declared.Finding.TheVariants as finding
 use Rattle.decisions.specs.Decide.{most_far, meeting, Decision, reached, clear, never, Kept, follows, told}
 use Rattle.decisions.specs.Conditions.{table_in, from_seconds}
 use Rattle.decisions.proofs.ForCode.{from_end, from_more}
-use Rattle.descent.specs.declared.Ended.{Ended}
-use Rattle.descent.specs.declared.Ended.TheVariants as ended
+use Rattle.descent.specs.declared.Stop.{Stop}
+use Rattle.descent.specs.declared.Stop.TheVariants as stop
 use Rattle.descent.specs.Trying.{set_at, ended_by}
 use Rattle.decide.specs.declared.Task.{Task}
 use Rattle.decide.specs.declared.LastPowers.{LastPowers}
@@ -99,7 +101,8 @@ module _ {task : Task} {from : List ℤ} (ready : SearchReady task from) where
       near : k - 1 < most_far
       near = omega (arith, ready.zones.far, g.from_one)
 
-      module _ {size : ℕ} (is-size : size ≡ table_size n) {r : Ended} {sets' : List ℤ} (e : CycleEnds task (take size p.tables) left sets r sets') where
+      module _ {size : ℕ} (is-size : size ≡ table_size n) {r : ControlFlow Stop ℕ} {sets' : List ℤ}
+          (e : CycleEnds task (take size p.tables) left sets r sets') where
         tried : meeting n (table_in task.parts (power n a (k - 1))) z d left ≡ ended_by r (set_at n sets' n)
         tried = sym (rw (is-size, g.power_is, g.first) at e.ends)
 
@@ -110,10 +113,10 @@ module _ {task : Task} {from : List ℤ} (ready : SearchReady task from) where
             (kept_by n p) left)
             ∙ ap (follows w task.may k (power n a (k - 1)) (kept_by n p) (cycles_from (task.horizon - k) (suc k))) tried
 
-        pub going_found : r ≡ ended.Found → {x : Finding} → Ok x ≡ told task.parts (reached k (pick n (set_at n sets' n))) → SearchEnds task z x
+        pub going_found : r ≡ Break stop.Found → {x : Finding} → Ok x ≡ told task.parts (reached k (pick n (set_at n sets' n))) → SearchEnds task z x
         going_found f = ends (rw f at followed)
 
-        pub going_spent : r ≡ ended.Spent → SearchEnds task z (finding.Undecided (cycle_number k))
+        pub going_spent : r ≡ Break stop.Spent → SearchEnds task z (finding.Undecided (cycle_number k))
         going_spent f = ends (rw f at followed) refl
 
       -- the next power can be made
@@ -136,7 +139,7 @@ module _ {task : Task} {from : List ℤ} (ready : SearchReady task from) where
             f.power ∙ ap (product n a) g.power_is ∙ sym (ap (power n a) is)
 
         module _ {size : ℕ} (is-size : size ≡ table_size n) {u : ℕ} {sets' : List ℤ}
-            (e : CycleEnds task (take size p.tables) left sets (ended.Missed u) sets') where
+            (e : CycleEnds task (take size p.tables) left sets (Continue u) sets') where
           missed_so : whole ≡ cond (task.may && again) never (cycles_from (task.horizon - k) (suc k) (power n a k) (kept_by n p') u)
           unfolding power
           missed_so =

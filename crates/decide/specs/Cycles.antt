@@ -1,5 +1,6 @@
 -- The cycles of a decision: what is asked of the functions and what they promise.
 use Rattle.std.specs.Prelude.{Ok, ℕ, suc, ◌*◌, ◌≤◌, ◌<◌, ◌≡◌, List, [], ◌∷◌, ℤ, length}
+use Rattle.std.specs.declared.ops.ControlFlow.{ControlFlow}
 use Rattle.model.specs.Sizes.{most_departures, zone_size}
 use Rattle.model.specs.Matrix.{Matrix}
 use Rattle.model.specs.Network.{Network, power}
@@ -10,7 +11,7 @@ use Rattle.memory.specs.Conditions.{ZoneIn, TableIn}
 use Rattle.decisions.specs.declared.Finding.{Finding}
 use Rattle.decisions.specs.Decide.{most_far, meeting, Decision, kept_from, told}
 use Rattle.decisions.specs.Conditions.{table_in, from_seconds, Tryable}
-use Rattle.descent.specs.declared.Ended.{Ended}
+use Rattle.descent.specs.declared.Stop.{Stop}
 use Rattle.descent.specs.Trying.{set_at, ended_by}
 use Rattle.decide.specs.declared.Task.{Task}
 
@@ -29,7 +30,7 @@ pub record CycleReady (task : Task) (power sets : List ℤ) : Type 0 where
   pub closed : Closed (suc task.n) (set_at task.n sets 0)
   pub fits : Tryable task.n (table_in task.parts (times_in power)) (bounds_in task.goal.now) Stored task.n 1 (0 ∷ []) (set_at task.n sets 0)
 
-pub record CycleEnds (task : Task) (power : List ℤ) (t : ℕ) (sets : List ℤ) (r : Ended) (sets' : List ℤ) : Type 0 where
+pub record CycleEnds (task : Task) (power : List ℤ) (t : ℕ) (sets : List ℤ) (r : ControlFlow Stop ℕ) (sets' : List ℤ) : Type 0 where
   pub ends : ended_by r (set_at task.n sets' task.n)
       ≡ meeting task.n (table_in task.parts (times_in power)) (set_at task.n sets 0) (bounds_in task.goal.now) t
   pub first_same : set_at task.n sets' 0 ≡ set_at task.n sets 0

@@ -14,10 +14,12 @@ ghost use Rattle.decide.specs.Powers.{FirstPower, Following, Followed};
 ghost use Rattle.decide.specs.Cycles.{CycleReady, CycleEnds, SetsIn, SearchReady, SearchEnds};
 
 use decisions::{Decided, FARTHEST, Finding};
-use descent::{Ended, SETS};
+use descent::{SETS, Stop};
 use ints::Cycle;
-use memory::{table_size, zone_size};
+use memory::{Loaded, table_size, zone_size};
 use model::{Case, Fault, StartTimes, TIMES, Verdict};
+use std::ops::ControlFlow;
+use zones::Target;
 
 // What is searched: the table of n departures and the target's set, the parts of a second, whether never can be told from a repeated power, the horizon, and
 // the steps.
@@ -75,13 +77,18 @@ impl LastPowers {
 }
 
 // One cycle: whether some start of the set of row 0 meets the target by one step of this power.
-fn try_cycle(sets: &mut [i64], power: &[i32], task: Task, steps: usize) -> Ended
+fn try_cycle(sets: &mut [i64], power: &[i32], task: Task, steps: usize) -> ControlFlow<Stop, usize>
     requires { CycleReady task power.now sets.old }
     ensures { CycleEnds task.entry power.now steps sets.old result sets.new }
 {
     let size = table_size(task.n);
     let table = descent::in_parts(power, task.parts);
-    descent::meeting(sets, &table[..size], task.goal, task.n, steps)
+    let target = Target {
+        times: &table[..size],
+        zone: task.goal,
+        n: task.n,
+    };
+    descent::meeting(sets, target, steps)
 }
 
 // The finding where cycle k meets the target: the start is picked in the set of the last row.
@@ -109,9 +116,9 @@ fn search(from: &[i64], task: Task) -> Finding
     let mut left = task.steps;
     for k in 1..task.horizon + 1 {
         match try_cycle(&mut sets, &powers.tables[..size], task, left) {
-            Ended::Found => return reached(&sets, task.n, task.parts, k),
-            Ended::Spent => return Finding::Undecided(Cycle(k)),
-            Ended::Missed(more) => left = more,
+            ControlFlow::Break(Stop::Found) => return reached(&sets, task.n, task.parts, k),
+            ControlFlow::Break(Stop::Spent) => return Finding::Undecided(Cycle(k)),
+            ControlFlow::Continue(more) => left = more,
         }
         let again = powers.next(task.times, task.n, k + 1);
         if task.may && again {
@@ -122,19 +129,16 @@ fn search(from: &[i64], task: Task) -> Finding
 }
 
 // The finding for a case without a fault: never where the start or the target has no times.
-#[tactic(auto, using(crate::proofs::Loaded::within_limits))]
+#[tactic(auto, using(decisions::proofs::DecideHolds::accepted_case))]
 fn accepted(case: Case, horizon: usize, steps: usize) -> Finding
     requires { Accepted case horizon }
     ensures { Ok result ≡ told (parts_of (network case)) (decide_marked (network case) horizon steps) }
 {
     let n = case.n;
-    let count = table_size(n);
-    let size = memory::pattern_size(n);
-    let times = memory::times_in(case.times, count);
-    let start = memory::bounds_in(case.start, size);
-    let target = memory::bounds_in(case.target, size);
-    let start = &start[..size];
-    let target = &target[..size];
+    let loaded = Loaded::of(case);
+    let times = loaded.times();
+    let start = loaded.start();
+    let target = loaded.target();
     let parts = judge::parts(case);
     let Some(from) = lists::whole_pattern(start, n, parts) else {
         return Finding::Settled(Verdict::Never);
@@ -145,7 +149,7 @@ fn accepted(case: Case, horizon: usize, steps: usize) -> Finding
     let zone = zone_size(n);
     let task = Task {
         n,
-        times: &times[..count],
+        times,
         goal: &goal[..zone],
         parts,
         may: memory::differences(start, target, n),

@@ -232,9 +232,6 @@ module _ (c : Case) (horizon steps : ℕ) where
   pub decides : Decides c horizon steps (decided c horizon steps)
   decides = record { one = one; two = two c horizon steps; three = three c horizon steps; agrees = agrees c horizon steps }
 
-  pub decide_given : DecideGiven c horizon steps (decided c horizon steps)
-  decide_given = record { answer = refl; demands = decides }
-
   -- of any answer that is the defined one
   pub given : {r : Result Finding Fault} → r ≡ decided c horizon steps → DecideGiven c horizon steps r
   given e = record { answer = e; demands = rw e decides }

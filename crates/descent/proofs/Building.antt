@@ -18,10 +18,11 @@ use Rattle.memory.specs.Side.{numbers_at, Elsewhere}
 use Rattle.memory.specs.Matrices.{leaves, Left}
 use Rattle.memory.proofs.Side.{length_numbers, stored_else, stored_numbers, else_trans, back_else, back_at}
 use Rattle.memory.specs.Wide.{bounds_in}
+use Rattle.zones.specs.declared.Choice.{Choice}
+use Rattle.zones.specs.declared.Target.{Target}
 use Rattle.decisions.specs.Decide.{first_constraints}
 use Rattle.decisions.specs.Conditions.{Tryable, more}
-use Rattle.descent.specs.Numbers.{times_in}
-use Rattle.descent.specs.Rows.{RowReady}
+use Rattle.descent.specs.Rows.{added_by, RowReady}
 use Rattle.descent.specs.Trying.{set_at, left_of, BuildReady, PlacedIn}
 
 -- a row that can be tried: its constraints can be taken in, and the rows below can be tried from what they leave
@@ -37,9 +38,12 @@ module _ {n : ℕ} {b : List Time} {d : Matrix} {L r i : ℕ} {cols : List ℕ} 
 pub row_room : {n : ℕ} (sets : List ℤ) → suc n * zone_size n ≤ length sets → (k : ℕ) → k ≤ n → k * zone_size n + zone_size n ≤ length sets
 row_room {n} sets h k l = omega (arith, mul-le-mul_right {m = suc k} {n = suc n} (zone_size n) (omega arith), suc-mul k (zone_size n))
 
-module _ {n : ℕ} {table zone sets : List ℤ} {cols : List ℕ} {i s : ℕ} (b : BuildReady n table zone sets cols i s) where
+module _ {t : Target ℤ} {sets : List ℤ} {cols : List ℕ} {c : Choice} (b : BuildReady t sets cols c) where
+  abbrev i : ℕ
+  i = c.row
+
   abbrev size : ℕ
-  size = zone_size n
+  size = zone_size t.n
 
   -- the set of the row before, copied
   abbrev pub copied : List ℤ
@@ -68,24 +72,22 @@ module _ {n : ℕ} {table zone sets : List ℤ} {cols : List ℕ} {i s : ℕ} (b
       (ap (λ (l : List ℤ). (take (i * size) sets ++ l) ++ drop (i * size + size) sets) (sym (take-take size size (drop ((i - 1) * size) sets) (omega arith))))
 
   -- it can take in what the column adds
-  pub row_ready : RowReady n (numbers_at size copied i) table zone (take i cols) i s
+  pub row_ready : RowReady t (numbers_at size copied i) (take i cols) c
   unfolding set_at
   row_ready = rw copied_at (record {
     set = b.row.closed;
-    table = b.row.table;
-    source = b.row.source;
     from_one = b.row.from_one;
     to_n = b.row.to_n;
     cols_size = let h = b.row.cols_size in let k = b.row.to_n in omega (arith, length-take-le i cols (omega arith));
     columns = b.row.columns;
     column = b.column;
-    fitting = tryable_row b.row.fits s b.column;
+    fitting = tryable_row b.row.fits c.column b.column;
   })
 
   -- and what that leaves stands there then
   pub placed : {r : Bool} (out : List ℤ) → length copied ≡ length sets → length out ≡ size
-      → Left (leaves n (bounds_in (numbers_at size copied i)) (first_constraints n (times_in table) (bounds_in zone) (take i cols) i s)) r (bounds_in out)
-      → PlacedIn n i (left_of n table zone sets cols i s) sets r (put_mid (i * size) (i * size + size - i * size) copied out)
+      → Left (leaves t.n (bounds_in (numbers_at size copied i)) (added_by t (take i cols) c)) r (bounds_in out)
+      → PlacedIn t.n i (left_of t sets cols c) sets r (put_mid (i * size) (i * size + size - i * size) copied out)
   unfolding set_at
   placed out long fits l =
       let inside : i * size + size ≤ length copied = omega (arith, room_here) in

@@ -6,29 +6,24 @@ ghost use Rattle.std.specs.Prelude.{◌≡◌, suc, ◌≤◌, length};
 ghost use Rattle.model.specs.Sizes.{most_departures, most_times};
 ghost use Rattle.model.specs.Network.{scale_time};
 ghost use Rattle.memory.specs.Numbers as Memory;
-ghost use Rattle.memory.specs.Conditions.{TimeCell};
 ghost use Rattle.memory.specs.Matrices.{leaves, Left};
 ghost use Rattle.memory.specs.Wide.{bounds_in};
-ghost use Rattle.decisions.specs.Decide.{first_constraints};
-ghost use Rattle.descent.specs.Numbers.{time_in, times_in, TableOf};
-ghost use Rattle.descent.specs.Rows.{RowReady};
+ghost use Rattle.descent.specs.Numbers.{time_in, TableOf};
+ghost use Rattle.descent.specs.Rows.{added_by, RowReady};
 ghost use Rattle.descent.specs.Trying.{left_of, column_ends, end_of_rows, PlacedIn, BuildReady, TryReady, DescendReady, Descended, MeetingReady, MeetingEnds};
 
 use memory::{Stored, WIDE_NONE, changed, holds_time, zone_size};
-use model::{DEPARTURES, NUMBERS, TIMES};
-use zones::{attain, keep_images};
-
-// A row for each departure, and one for the clock.
-const ROWS: usize = DEPARTURES + 1;
+use model::{NUMBERS, ROWS, TIMES};
+use std::ops::ControlFlow;
+use zones::{Choice, Target, attain, keep_images};
 
 // The numbers of a set for each row.
 pub const SETS: usize = ROWS * NUMBERS;
 
-// How a try ends: with a set, which is that of the last row, with none and so many steps left, or out of steps.
+// Why a try stops: with a set, which is that of the last row, or out of steps. One that goes on has found none, and has so many steps left.
 #[derive(Clone, Copy)]
-pub enum Ended {
+pub enum Stop {
     Found,
-    Missed(usize),
     Spent,
 }
 
@@ -51,115 +46,81 @@ pub fn in_parts(times: &[i32], parts: usize) -> [i64; TIMES]
     changed(times, 0, |raw| part_of(raw, parts))
 }
 
-// Adds to part what row i adds with column s for the zone; cols holds the columns of rows 0 to i - 1. False where no times are left, and then what stands in
-// part is free. One line, as add_row of zones is: each says the constraints of its own definition, which one function over both would not.
-fn add_row(
-    part: &mut [i64],
-    table: &[i64],
-    zone: &[i64],
-    cols: &[usize],
-    n: usize,
-    i: usize,
-    s: usize,
-) -> bool
-    requires { RowReady n part.old table.now zone.now cols.now i s }
-    ensures { Left (leaves n (bounds_in part.old) (first_constraints n (times_in table.now) (bounds_in zone.now) cols.now i s))
-        result (bounds_in part.new) }
+// Adds to part what c.row adds with its column; cols holds the columns of the rows before. False where no times are left, and then what stands in part is
+// free. One line, as add_row of zones is: each says the constraints of its own definition, which one function over both would not.
+fn add_row(part: &mut [i64], target: Target<i64>, cols: &[usize], c: Choice) -> bool
+    requires { RowReady target part.old cols.now c }
+    ensures { let t = target.entry in Left (leaves t.n (bounds_in part.old) (added_by t cols.now c)) result (bounds_in part.new) }
 {
-    attain(part, table, n, i, s, true) && keep_images(part, table, zone, cols, n, i, s)
+    attain(part, target.times, target.n, c, true) && keep_images(part, target, cols, c)
 }
 
-// Builds, as the set of row i, what column s leaves of the set of the row before. False where that is nothing.
-fn build(
-    sets: &mut [i64],
-    table: &[i64],
-    zone: &[i64],
-    cols: &[usize],
-    n: usize,
-    i: usize,
-    s: usize,
-) -> bool
-    requires { BuildReady n table.now zone.now sets.old cols.now i s }
-    ensures { PlacedIn n i (left_of n table.now zone.now sets.old cols.now i s)
-        sets.old result sets.new }
+// Builds, as the set of c.row, what its column leaves of the set of the row before. False where that is nothing.
+fn build(sets: &mut [i64], target: Target<i64>, cols: &[usize], c: Choice) -> bool
+    requires { BuildReady target sets.old cols.now c }
+    ensures { let t = target.entry in PlacedIn t.n c.row (left_of t sets.old cols.now c) sets.old result sets.new }
 {
-    let size = zone_size(n);
-    let base = i * size;
+    let size = zone_size(target.n);
+    let base = c.row * size;
     sets.copy_within(base - size..base, base);
-    add_row(
-        &mut sets[base..base + size],
-        table,
-        zone,
-        &cols[..i],
-        n,
-        i,
-        s,
-    )
+    add_row(&mut sets[base..base + size], target, &cols[..c.row], c)
 }
 
-// Column s of row i, with so many steps: it takes one where it holds a time, and the rows below go on from what it leaves.
+// Column c.column of its row, with so many steps: it takes one where it holds a time, and the rows below go on from what it leaves.
 #[cycle(descend_try_column)]
+#[tactic(auto, using(crate::proofs::Descending::columns))]
 fn try_column(
     sets: &mut [i64],
-    table: &[i64],
-    zone: &[i64],
     cols: &mut [usize],
-    n: usize,
-    i: usize,
-    s: usize,
+    target: Target<i64>,
+    c: Choice,
     steps: usize,
-) -> Ended
-    requires { TryReady n table.now zone.now sets.old cols.old i s }
-    ensures { Descended n i (column_ends n table.now zone.now sets.old cols.old i s steps)
-        sets.old cols.old result sets.new cols.new }
+) -> ControlFlow<Stop, usize>
+    requires { TryReady target sets.old cols.old c }
+    ensures { let t = target.entry in Descended t.n c.row (column_ends t sets.old cols.old c steps) sets.old cols.old result sets.new cols.new }
 {
-    if !holds_time(table, n, i, s) {
-        return Ended::Missed(steps);
+    if !holds_time(target.times, target.n, c.row, c.column) {
+        return ControlFlow::Continue(steps);
     }
     if steps == 0 {
-        return Ended::Spent;
+        return ControlFlow::Break(Stop::Spent);
     }
-    if !build(sets, table, zone, cols, n, i, s) {
-        return Ended::Missed(steps - 1);
+    if !build(sets, target, cols, c) {
+        return ControlFlow::Continue(steps - 1);
     }
-    if i == n {
-        return Ended::Found;
+    if c.row == target.n {
+        return ControlFlow::Break(Stop::Found);
     }
-    cols[i] = s;
-    descend(sets, table, zone, cols, n, i + 1, steps - 1)
+    cols[c.row] = c.column;
+    descend(sets, cols, target, c.row + 1, steps - 1)
 }
 
 // Rows i to n, with any columns: column after column of row i, until one ends with a set.
 #[cycle(descend_try_column)]
+#[tactic(auto, using(crate::proofs::Descending::rows))]
 fn descend(
     sets: &mut [i64],
-    table: &[i64],
-    zone: &[i64],
     cols: &mut [usize],
-    n: usize,
+    target: Target<i64>,
     i: usize,
     steps: usize,
-) -> Ended
-    requires { DescendReady n table.now zone.now sets.old cols.old i }
-    ensures { Descended n i (end_of_rows n table.now zone.now sets.old cols.old i steps)
-        sets.old cols.old result sets.new cols.new }
+) -> ControlFlow<Stop, usize>
+    requires { DescendReady target sets.old cols.old i }
+    ensures { let t = target.entry in Descended t.n i (end_of_rows t sets.old cols.old i steps) sets.old cols.old result sets.new cols.new }
 {
     let mut left = steps;
-    for s in 1..n + 1 {
-        match try_column(sets, table, zone, cols, n, i, s, left) {
-            Ended::Found => return Ended::Found,
-            Ended::Spent => return Ended::Spent,
-            Ended::Missed(more) => left = more,
-        }
+    for s in 1..target.n + 1 {
+        let c = Choice { row: i, column: s };
+        left = try_column(sets, cols, target, c, left)?;
     }
-    Ended::Missed(left)
+    ControlFlow::Continue(left)
 }
 
 // All rows: whether some times of the set of row 0 go into the zone by one step of the table. Where a set is found it is that of row n; the set of row 0 stays.
-pub fn meeting(sets: &mut [i64], table: &[i64], zone: &[i64], n: usize, steps: usize) -> Ended
-    requires { MeetingReady n table.now zone.now sets.old }
-    ensures { MeetingEnds n table.now zone.now steps sets.old result sets.new }
+pub fn meeting(sets: &mut [i64], target: Target<i64>, steps: usize) -> ControlFlow<Stop, usize>
+    requires { MeetingReady target sets.old }
+    ensures { MeetingEnds target.entry steps sets.old result sets.new }
 {
     let mut cols = [0usize; ROWS];
-    descend(sets, table, zone, &mut cols, n, 1, steps)
+    descend(sets, &mut cols, target, 1, steps)
 }

@@ -3,7 +3,7 @@
 // Names of functions with arrays end in the most departures, which decides how long the arrays are: the header gives them to the linker under plain names.
 #![tactic(auto)]
 
-ghost use Rattle.std.specs.Prelude.{◌≡◌, ◌+◌, ◌≤◌, ◌<◌, length, get_or};
+ghost use Rattle.std.specs.Prelude.{◌≡◌, ◌+◌, ◌≤◌, ◌<◌, ◌++◌, length};
 ghost use Rattle.model.specs.Sizes.{most_times, most_bounds};
 ghost use Rattle.model.specs.Lists.{padded, tabulate};
 ghost use Rattle.model.specs.Faults.{unmarked, marked};
@@ -149,10 +149,7 @@ fn run_answer(run: Result<[Seconds; DEPARTURES], Fault>, cycle: Cycle, parts: us
 fn slot_of(has: u8, value: i64) -> Option<Seconds>
     ensures { result ≡ slot_of has value }
 {
-    if has == 0 {
-        return None;
-    }
-    Some(Seconds(value))
+    (has != 0).then_some(Seconds(value))
 }
 
 impl Lent<'_> {
@@ -179,8 +176,8 @@ impl Lent<'_> {
         ensures { result ≡ padded None most_bounds (tabulate most_times 0 (slot_at self.entry.present.now self.entry.values.now)) }
     {
         let mut times = [None; BOUNDS];
-        for k in 0..TIMES {
-            times[k] = self.slot_at(k);
+        for (k, time) in times[..TIMES].iter_mut().enumerate() {
+            *time = self.slot_at(k);
         }
         times
     }
@@ -192,8 +189,8 @@ impl Lent<'_> {
             (tabulate most_bounds first (limit_at self.entry.present.now self.entry.strict.now self.entry.values.now)) }
     {
         let mut bounds = [None; BOUNDS];
-        for k in 0..BOUNDS {
-            bounds[k] = self.limit_at(first + k);
+        for (k, bound) in bounds.iter_mut().enumerate() {
+            *bound = self.limit_at(first + k);
         }
         bounds
     }
@@ -223,18 +220,32 @@ fn case_in(
     }
 }
 
-// Entry k of a case, the table's first, then those of the start and of the target.
-fn entry_at(case: &Case, k: usize) -> Option<Limit>
-    requires { k < case_entries }
-    ensures { result ≡ get_or (entries_of case.now.times case.now.start case.now.target) k None }
+// Three lists of entries put one behind the other, where they fill the array.
+#[tactic(auto, using(crate::proofs::Arrays::three_put))]
+fn put_all(
+    times: &[Option<Limit>],
+    start: &[Option<Limit>],
+    target: &[Option<Limit>],
+    entries: &mut [Option<Limit>],
+)
+    requires { length entries.old ≡ length times.now + length start.now + length target.now }
+    ensures { entries.new ≡ (times.now ++ start.now) ++ target.now }
 {
-    if k < START {
-        packed::unmarked(case.times[k])
-    } else if k < TARGET {
-        case.start[k - START]
-    } else {
-        case.target[k - TARGET]
-    }
+    let first = times.len();
+    let second = first + start.len();
+    entries[..first].copy_from_slice(times);
+    entries[first..second].copy_from_slice(start);
+    entries[second..].copy_from_slice(target);
+}
+
+// The entries of a case in their places: the table's first, then those of the start and of the target.
+fn entries(case: Case) -> [Option<Limit>; ENTRIES]
+    ensures { result ≡ entries_of case.times case.start case.target }
+{
+    let times = case.times.map(packed::unmarked);
+    let mut entries = [None; ENTRIES];
+    put_all(&times[..TIMES], &case.start, &case.target, &mut entries);
+    entries
 }
 
 // How a presence or a mark is handed back: 1 if it is so, else 0.
@@ -247,20 +258,14 @@ fn flag(is: bool) -> u8
 fn mark(entry: Option<Limit>) -> u8
     ensures { result ≡ flag (marked entry) }
 {
-    match entry {
-        Some(limit) => flag(limit.strict),
-        None => 0,
-    }
+    flag(entry.is_some_and(|limit| limit.strict))
 }
 
 // The number of an entry, 0 where it is absent.
 fn number(entry: Option<Limit>) -> i64
     ensures { result ≡ entry_number entry }
 {
-    match entry {
-        Some(limit) => limit.value.0,
-        None => 0,
-    }
+    entry.map_or(0, |limit| limit.value.0)
 }
 
 // Hands the entries of a case back in three arrays: 1 in present where one is there and 1 in strict where it is strict, else 0.
@@ -272,12 +277,10 @@ fn hand_entries(
 )
     ensures { EntriesHanded (entries_of case.times case.start case.target) present.new strict.new values.new }
 {
-    for k in 0..ENTRIES {
-        let entry = entry_at(&case, k);
-        present[k] = flag(entry.is_some());
-        strict[k] = mark(entry);
-        values[k] = number(entry);
-    }
+    let entries = entries(case);
+    *present = entries.map(|entry| flag(entry.is_some()));
+    *strict = entries.map(mark);
+    *values = entries.map(number);
 }
 
 // The verdict on a packed case.

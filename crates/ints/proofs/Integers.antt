@@ -6,11 +6,10 @@ use Prim.Native.Nat.{ℕ, zero, suc, ◌+◌, ◌-◌, ◌^◌, ◌≤◌, ◌<�
 use native.Mathlib.Omega.{arith}
 use borrow.Author.Tests.{ltb-true, ltb-false, leb-false}
 use lib.Dec.{T, ltb, ltb→lt, leb→le, le→leb, lt→ltb}
-use lib.IntN.{ℤ, pos, negsuc, neg_ℤ, nat_abs, ◌+ℤ◌, ◌-ℤ◌, +ℤ_idl}
+use lib.IntN.{ℤ, pos, negsuc, neg_ℤ, nat_abs, ◌+ℤ◌, ◌-ℤ◌}
 use lib.Signed.{◌≤ℤ◌, ◌<ℤ◌, le_z, lt_z, lt_z_no}
 use mir.Syntax.{Width}
-use mir.Val.{SFits, hbits, to_z, of_z}
-use mir.ValLaws.{to_z_pos, to_z-of_z}
+use mir.Val.{SFits, hbits}
 
 -- cases that exclude each other, found by `cc`: `impossible cc`
 pub impossible {ℓ} : {A : Type ℓ} → ◌≡◌ {A = ℕ} 0 1 → A
@@ -170,13 +169,5 @@ fits {a = negsuc n} r = omega arith
 
 pub sized_fits : {w : Width} (a : ℤ) → nat_abs a < 2 ^ hbits w → SFits w a
 sized_fits a h = fits (omega (arith, abs_ud a))
-
--- the negation of an unsigned number, which the machine computes as 0 - n
-module _ (w : Width) (n : ℕ) (h : n < 2 ^ hbits w) where
-  pub opposite_fits : SFits w (pos 0 -ℤ to_z w n)
-  opposite_fits = rw (to_z_pos w n h) (fits (omega (arith, sub_ud (pos 0) (pos n), pos_ud 0, pos_ud n)))
-
-  pub opposite : to_z w (of_z w (pos 0 -ℤ to_z w n)) ≡ neg_ℤ (pos n)
-  opposite = rw (to_z-of_z w _ opposite_fits, to_z_pos w n h) (+ℤ_idl (neg_ℤ (pos n)))
 
 pub ruleset ints = (arith, le_nat, nat_le, lt_nat, nat_lt, eq_nat, nat_eq, le_z_true, le_z_false, lt_z_true, lt_z_false, nat_le_z, nat_gt_z)

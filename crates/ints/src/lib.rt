@@ -70,7 +70,7 @@ impl Seconds {
         self < ZERO
     }
 
-    // More than limit in size.
+    // More than limit in size; by the order of times, so that the edits at_most and beyond_above can each turn one of its tests.
     pub fn beyond(self, limit: u64) -> bool
         requires { limit < 2 ^ 63 }
         ensures { result ≡ ltb limit (nat_abs self.0) }

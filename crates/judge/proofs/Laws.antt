@@ -1,16 +1,17 @@
 -- Laws of the judged faults: one turn and the end of the walk over entries, and what the number of departures and the parts keep to.
-use mathlib.Core.Path.{◌≡◌, refl, ap, ◌∙◌}
-use Prim.Native.Nat.{ℕ, suc, ◌+◌, ◌-◌, ◌*◌, ◌≤◌, ◌<◌}
+use mathlib.Core.Path.{◌≡◌, refl, ap, sym, ◌∙◌}
+use Prim.Native.Nat.{ℕ, zero, suc, ◌+◌, ◌*◌, ◌≤◌, ◌<◌}
 use native.Mathlib.Nat.{add-zero, suc-mul}
 use native.Mathlib.Numerals.{add-one}
 use native.Mathlib.Omega.{arith}
 use borrow.Author.Tests.{le-ltb}
-use mathlib.Core.List.{List, [], ◌∷◌, map}
-use mathlib.Core.Option.{Option, none, some}
+use mathlib.Core.List.{List, [], ◌∷◌, ◌++◌, map}
+use mathlib.Core.Option.{Option, none}
 use mathlib.Core.Bool.{Bool, true, false, not, ◌||◌, cond}
-use lib.ListN.{length, take, drop, get_or, drop_of_length-le}
-use lib.Seq.{drop-cons, drop-drop}
-use Rattle.std.specs.Prelude.{Some, None, Err, is_some}
+use lib.ListN.{length, take, drop, get_or, drop_of_length-le, length-append}
+use lib.Seq.{drop-cons}
+use Rattle.std.proofs.lemmas.List.{take_at, drop_at, take-take, drop-take}
+use Rattle.std.specs.Prelude.{Some, None, Ok, Err, is_some}
 use Rattle.std.specs.List.{list_any}
 use Rattle.ints.specs.declared.Seconds.{Seconds}
 use Rattle.model.specs.declared.Limit.{Limit}
@@ -21,11 +22,11 @@ use Rattle.model.specs.Sizes.{most_departures, time_limit, most_bounds}
 use Rattle.model.specs.Lists.{any_of, when, or_else}
 use Rattle.model.specs.Network.{is_time, regular}
 use Rattle.model.specs.Search.{is_strict, some_strict, parts_of}
-use Rattle.model.specs.Faults.{Entry, time_of, bound_of, marked, network, beyond, over, entry_fault, rows_fault, outside, table_fault, case_fault}
+use Rattle.model.specs.Faults.{Entry, time_of, bound_of, marked, network, over, entry_fault, rows_fault, outside, table_fault, case_fault}
 use Rattle.model.specs.Conditions.{Departures}
 use Rattle.model.specs.Answers.{judged}
 use Rattle.model.proofs.Limits.{no_fault, or_else_none}
-use Rattle.model.proofs.Outcomes.{judgements}
+use Rattle.model.proofs.Outcomes.{judgements, judged_ok, judged_err}
 use Rattle.model.proofs.Places.{pattern_fits}
 use Rattle.judge.specs.Judgement.{start_parts}
 
@@ -37,32 +38,35 @@ pub passed_none : {A : Type 0} {judge : ℕ → A → Option Fault} {p : ℕ} (e
 passed_none es = record { rest = rw add-zero refl }
 
 module _ {A : Type 0} {judge : ℕ → A → Option Fault} {p : ℕ} {es : List A} {i : ℕ} (r : Passed judge p es i) where
-  -- a turn, z being what an array has beyond its end
-  module _ (z : A) (h : i < length es) where
-    pub passed_more : judge (p + i) (get_or es i z) ≡ none → Passed judge p es (i + 1)
+  -- a turn: x is entry i
+  module _ (x : A) (h : i < length es) (e : x ≡ get_or es i x) where
+    pub passed_more : {u : Unit {0}} → Ok u ≡ judged (judge (p + i) x) → Passed judge p es (i + 1)
     unfolding entry_fault
-    passed_more b =
+    passed_more {u} b =
         let m : suc (p + i) ≡ p + (i + 1) = omega arith in
-        let front : drop i es ≡ get_or es i z ∷ drop (i + 1) es = rw (add-one, drop-cons es i z) in
-        record { rest = r.rest ∙ rw front (simp (b, m)) }
+        let front : drop i es ≡ x ∷ drop (i + 1) es = rw add-one (rw (← e) at (drop-cons es i x h)) in
+        let clean = judged_ok (judge (p + i) x) u (sym b) in
+        record { rest = r.rest ∙ rw front (simp (clean, m)) }
 
-    pub passed_refused : {f : Fault} → judge (p + i) (get_or es i z) ≡ some f → judged (entry_fault judge p es) ≡ Err f
+    pub passed_refused : {f : Fault} → Err f ≡ judged (judge (p + i) x) → Err f ≡ judged (entry_fault judge p es)
     unfolding entry_fault
-    passed_refused b = rw (r.rest, drop-cons es i z) (simp b)
+    passed_refused {f} b =
+        let refused = judged_err (judge (p + i) x) f (sym b) in
+        rw (r.rest, drop-cons es i x, ← e) (simp refused)
 
   -- the end
   pub passed_all : length es ≤ i → entry_fault judge p es ≡ none
   unfolding entry_fault
   passed_all h = r.rest ∙ rw (drop_of_length-le es h) refl
 
--- an entry beyond its limit, and one within
-pub over_some : (limit : ℕ) (f : ℕ → Fault) (p : ℕ) (e : Entry Seconds) → beyond limit e ≡ true → over limit f p e ≡ some (f p)
-unfolding over
-over_some limit f p e h = rw h
+pub ruleset passing = (passed_none, passed_all)
 
-pub over_not : (limit : ℕ) (f : ℕ → Fault) (p : ℕ) (e : Entry Seconds) → beyond limit e ≡ false → over limit f p e ≡ none
-unfolding over
-over_not limit f p e h = rw h
+-- the first fault of the entries that f makes of others
+pub entries_of : {A B : Type 0} (judge : ℕ → B → Option Fault) (f : A → B) (p : ℕ) (es : List A)
+    → entry_fault judge p (map f es) ≡ entry_fault (λ q e. judge q (f e)) p es
+unfolding entry_fault
+entries_of judge f p [] = refl
+entries_of judge f p (e ∷ es) = ap (or_else (judge p (f e))) (entries_of judge f (suc p) es)
 
 -- ---- what some entry is
 pub holds_time : (es : List (Entry Seconds)) → regular (map time_of es) ≡ list_any is_some es
@@ -77,36 +81,63 @@ holds_mark [] = refl
 holds_mark (None ∷ es) = holds_mark es
 holds_mark (Some e ∷ es) = ap (◌||◌ e.strict) (holds_mark es)
 
--- ---- row r of n, and those after it
-module _ (n r : ℕ) (es : List (Entry Seconds)) where
-  abbrev row : List (Entry Seconds)
-  row = take n (drop (r * n) es)
+-- ---- a walk over rows of n entries: k were passed, and the first fault is that of the rows left
+pub record RowsPassed (n : ℕ) (es : List (Entry Seconds)) (size k : ℕ) (rest : List (Entry Seconds)) : Type 0 where
+  pub width : size ≡ n
+  pub left : ℕ
+  pub rows : left + k ≡ n
+  pub long : length rest ≡ left * n
+  pub same : rows_fault n n 0 es ≡ rows_fault n left (k * n) rest
 
-  -- from row r on, and from the row after it
-  abbrev from : ℕ → Option Fault
-  from k = rows_fault n (n - k) (k * n) (drop (k * n) es)
+-- the next row
+module _ {n size k : ℕ} {es rest : List (Entry Seconds)} (s : RowsPassed n es size k rest) (d : Departures n) (row more : List (Entry Seconds))
+    (cut : rest ≡ row ++ more) (w : length row ≡ size) where
+  abbrev Turn : Type 0
+  Turn = (r : ℕ) × (suc r + k ≡ n) × (length more ≡ r * n) × (rows_fault n n 0 es
+      ≡ or_else (entry_fault (over time_limit fault.Time) (k * n) row)
+      (or_else (when (not (list_any is_some row)) (fault.EmptyRow (k * n))) (rows_fault n r ((k + 1) * n) more)))
 
-  rows_turn : r < n → from r ≡
-      or_else (entry_fault (over time_limit fault.Time) (r * n) row) (or_else (when (not (list_any is_some row)) (fault.EmptyRow (r * n))) (from (r + 1)))
+  turn : Turn
   unfolding rows_fault
-  rows_turn h =
-      let m : n - r ≡ suc (n - (r + 1)) = omega arith in
-      let e : (r + 1) * n ≡ r * n + n = rw add-one (suc-mul r n) in
-      rw (m, e, ← (drop-drop n (r * n) es), holds_time)
+  turn = go s.left s.rows s.long s.same
+    where
+      go : (r : ℕ) → r + k ≡ n → length rest ≡ r * n → rows_fault n n 0 es ≡ rows_fault n r (k * n) rest → Turn
+      go zero e l f = absurd (omega (arith, ap length cut, length-append row more, s.width, d.some))
+      go (suc r) e l f =
+          let wide : length row ≡ n = w ∙ s.width in
+          let front = take_at row more n wide in
+          let back = drop_at row more n wide in
+          let next : (k + 1) * n ≡ k * n + n = rw add-one (suc-mul k n) in
+          (r, e, omega (arith, ap length cut, length-append row more), f ∙ rw (cut, front, back, holds_time, next) refl)
 
-  pub row_refused : r < n → (f : Fault) → entry_fault (over time_limit fault.Time) (r * n) row ≡ some f → judged (from r) ≡ Err f
-  row_refused h f e = rw (rows_turn h, e)
+  pub row_refused : {f : Fault} → Err f ≡ judged (entry_fault (over time_limit fault.Time) (k * n) row) → Err f ≡ judged (rows_fault n n 0 es)
+  row_refused {f} b = let e = judged_err _ f (sym b) in rw (turn.3, e)
 
-  module _ (h : r < n) (e : entry_fault (over time_limit fault.Time) (r * n) row ≡ none) where
-    pub row_empty : list_any is_some row ≡ false → judged (from r) ≡ Err (fault.EmptyRow (r * n))
-    row_empty t = rw (rows_turn h, e, t)
+  module _ {u : Unit {0}} (b : Ok u ≡ judged (entry_fault (over time_limit fault.Time) (k * n) row)) where
+    pub row_empty : false ≡ list_any is_some row → Err (fault.EmptyRow (k * n)) ≡ judged (rows_fault n n 0 es)
+    row_empty t = let e = judged_ok _ u (sym b) in rw (turn.3, e, ← t)
 
-    pub row_passed : list_any is_some row ≡ true → from r ≡ from (r + 1)
-    row_passed t = rw (rows_turn h, e, t)
+    pub row_passed : true ≡ list_any is_some row → RowsPassed n es size (k + 1) more
+    row_passed t =
+        let e = judged_ok _ u (sym b) in
+        record { width = s.width; left = turn.0; rows = omega (arith, turn.1); long = turn.2; same = turn.3 ∙ rw (e, ← t) refl }
 
-  pub rows_end : n ≤ r → from r ≡ none
-  unfolding rows_fault
-  rows_end h = let m : n - r ≡ 0 = omega arith in rw m
+-- no row is left
+pub rows_end : {n size k : ℕ} {es rest : List (Entry Seconds)} → RowsPassed n es size k rest → length rest < size → rows_fault n n 0 es ≡ none
+unfolding rows_fault
+rows_end {n} {k = k} {es} {rest} s h = go s.left s.long s.same
+  where
+    go : (r : ℕ) → length rest ≡ r * n → rows_fault n n 0 es ≡ rows_fault n r (k * n) rest → rows_fault n n 0 es ≡ none
+    go zero l e = e
+    go (suc r) l e = absurd (omega (arith, suc-mul r n, s.width))
+
+-- entries behind the rows do not count
+pub rows_front : (n r p : ℕ) (es : List (Entry Seconds)) → rows_fault n r p (take (r * n) es) ≡ rows_fault n r p es
+unfolding rows_fault
+rows_front n zero p es = refl
+rows_front n (suc r) p es =
+    let e : suc r * n ≡ n + r * n = omega (arith, suc-mul r n) in
+    rw (e, drop-take n (r * n) es, take-take n (n + r * n) es (omega arith), rows_front n r (p + n) (drop n es)) refl
 
 -- ---- departures in their limits
 -- the bounds of a pattern are within the array

@@ -1,22 +1,22 @@
 // Judges an unpacked case: the first fault of the case by itself, for a packed form, of a call for a verdict, and of a run. Also, the parts of its start.
 #![tactic(auto)]
 
-ghost use Rattle.std.specs.Prelude.{◌≡◌, map, ◌≤◌, ◌<◌, ◌^◌, ◌+◌, length, is_some, ltb};
+ghost use Rattle.std.specs.Prelude.{◌≡◌, map, ◌≤◌, ◌<◌, ◌^◌, ◌+◌, ◌*◌, length, is_some, ltb};
 ghost use Rattle.std.specs.List.{list_any};
 ghost use Rattle.model.specs.declared.Fault.TheVariants as fault;
 ghost use Rattle.model.specs.Sizes.{most_departures, most_times, most_bounds, time_limit, start_limit};
 ghost use Rattle.model.specs.Forms.{most_in};
+ghost use Rattle.model.specs.Lists.{when};
 ghost use Rattle.model.specs.Faults;
 ghost use Rattle.model.specs.Faults.{present, marked, over, bound_fault_in, entry_fault, rows_fault, times_fault, table_fault, patterns_fault};
 ghost use Rattle.model.specs.Faults.{case_fault, form_fault, room_fault, call_fault, run_fault};
 ghost use Rattle.model.specs.Conditions.{Departures};
 ghost use Rattle.model.specs.Answers.{judged};
-ghost use Rattle.judge.specs.Judgement.{start_parts};
+ghost use Rattle.judge.specs.Judgement.{FirstSaid, start_parts};
 
 use ints::{Cycle, Seconds};
 use model::{
-    BOUND_LIMIT, BOUNDS, CYCLES, Case, DEPARTURES, Fault, Form, Limit, START_LIMIT, TIME_LIMIT,
-    WIDE, ZONES,
+    BOUND_LIMIT, CYCLES, Case, DEPARTURES, Fault, Form, Limit, START_LIMIT, TIME_LIMIT, WIDE, ZONES,
 };
 
 // Below low or above high.
@@ -27,16 +27,33 @@ pub fn outside(low: usize, high: usize, k: usize) -> bool
     k < low || high < k
 }
 
-// There, and more than limit in size.
+// The fault of a time that is beyond the limit.
 #[tactic(auto, unfolding(model::specs::Faults::beyond))]
-fn beyond(time: Option<Seconds>, limit: u64) -> bool
+fn within(time: Option<Seconds>, limit: u64, fault: Fault) -> Result<(), Fault>
     requires { limit < 2 ^ 63 }
-    ensures { result ≡ Faults.beyond limit time }
+    ensures { result ≡ judged (when (Faults.beyond limit time) fault) }
 {
-    match time {
-        Some(value) => value.beyond(limit),
-        None => false,
+    if time.is_some_and(|value| value.beyond(limit)) {
+        return Err(fault);
     }
+    Ok(())
+}
+
+// The first fault of entries that are numbered from first on, by what judge says of an entry at a place.
+#[tactic(auto, using(crate::proofs::Laws::passing))]
+fn first_fault<E: Copy, F: Fn(E, usize) -> Result<(), Fault> + Copy>(
+    entries: &[E],
+    first: usize,
+    judge: F,
+) -> Result<(), Fault>
+    requires room { first + length entries.now < 2 ^ 64 }
+    requires may { F.IsAlwaysCallable judge }
+    ensures { FirstSaid (F.post judge) first entries.now result }
+{
+    for (i, entry) in entries.iter().enumerate() {
+        judge(*entry, first + i)?;
+    }
+    Ok(())
 }
 
 // Fault 4: the first time of a row that is beyond the limit, the row's entries being numbered from first on.
@@ -45,12 +62,9 @@ fn entries_fault(row: &[Option<Seconds>], first: usize) -> Result<(), Fault>
     requires { first + length row.now ≤ most_times }
     ensures { result ≡ judged (entry_fault (over time_limit fault.Time) first row.now) }
 {
-    for (column, time) in row.iter().enumerate() {
-        if beyond(*time, TIME_LIMIT) {
-            return Err(Fault::Time(first + column));
-        }
-    }
-    Ok(())
+    first_fault(row, first, |time, place| {
+        within(time, TIME_LIMIT, Fault::Time(place))
+    })
 }
 
 // A row holds a time.
@@ -61,13 +75,12 @@ fn holds_time(row: &[Option<Seconds>]) -> bool
 }
 
 // Faults 4 and 5: each row's entries, then whether it holds a time.
-fn rows_fault(times: [Option<Seconds>; BOUNDS], n: usize) -> Result<(), Fault>
-    requires { Departures n }
-    ensures { result ≡ judged (rows_fault n n 0 times) }
+fn rows_fault(times: &[Option<Seconds>], n: usize) -> Result<(), Fault>
+    requires { Departures n × (length times.now ≡ n * n) }
+    ensures { result ≡ judged (rows_fault n n 0 times.now) }
 {
-    for row in 0..n {
+    for (row, entries) in times.chunks_exact(n).enumerate() {
         let first = row * n;
-        let entries = &times[first..first + n];
         entries_fault(entries, first)?;
         if !holds_time(entries) {
             return Err(Fault::EmptyRow(first));
@@ -84,9 +97,7 @@ fn bound_fault(bound: Option<Limit>, place: usize, form: Form) -> Result<(), Fau
     let Some(limit) = bound else {
         return Ok(());
     };
-    if limit.value.beyond(BOUND_LIMIT) {
-        return Err(Fault::Bound(place));
-    }
+    within(Some(limit.value), BOUND_LIMIT, Fault::Bound(place))?;
     if form.mark == 0 && limit.strict {
         return Err(Fault::Form(place));
     }
@@ -98,27 +109,27 @@ fn bounds_fault(bounds: &[Option<Limit>], offset: usize, form: Form) -> Result<(
     requires { (length bounds.now ≤ most_bounds) × (offset ≤ most_bounds) }
     ensures { result ≡ judged (entry_fault (bound_fault_in form) offset bounds.now) }
 {
-    for (i, bound) in bounds.iter().enumerate() {
-        bound_fault(*bound, offset + i, form)?;
-    }
-    Ok(())
+    first_fault(
+        bounds,
+        offset,
+        |bound, place| bound_fault(bound, place, form),
+    )
 }
 
 // Fault 13 of start times.
+#[tactic(auto, using(crate::proofs::Laws::entries_of), unfolding(model::specs::Faults::over))]
 fn starts_fault(start: &[Seconds]) -> Result<(), Fault>
     requires { length start.now ≤ most_departures }
     ensures { result ≡ judged (entry_fault (over start_limit fault.StartTime) 0 (map (λ x. present x.0) start.now)) }
 {
-    for (i, time) in start.iter().enumerate() {
-        if time.beyond(START_LIMIT) {
-            return Err(Fault::StartTime(i));
-        }
-    }
-    Ok(())
+    first_fault(start, 0, |time, i| {
+        within(Some(time), START_LIMIT, Fault::StartTime(i))
+    })
 }
 
-// Fault 3 for k cycles of which there are to be at least low, then 4 and 5.
-#[tactic(auto, using(model::proofs::Outcomes::judgements))]
+// Fault 3 for k cycles of which there are to be at least low, then 4 and 5. That n is in its limits is asked for here and in three more functions: a struct
+// that holds it would be made at each place that judges n, which is no shorter.
+#[tactic(auto, using(model::proofs::Outcomes::judgements, crate::proofs::Laws::rows_front))]
 fn times_fault(case: Case, low: usize, k: usize) -> Result<(), Fault>
     requires { Departures case.n }
     ensures { result ≡ judged (times_fault case low k) }
@@ -127,7 +138,7 @@ fn times_fault(case: Case, low: usize, k: usize) -> Result<(), Fault>
     if outside(low, CYCLES, k) {
         return Err(Fault::Horizon);
     }
-    rows_fault(case.times, n)
+    rows_fault(&case.times[..n * n], n)
 }
 
 // Fault 2, then 3 to 5.
@@ -231,7 +242,8 @@ fn some_strict(bounds: &[Option<Limit>]) -> bool
         .any(|bound| matches!(bound, Some(limit) if limit.strict))
 }
 
-// The parts of a second that a start of the case is in: 0 where its number of departures is refused.
+// The parts of a second that a start of the case is in, 0 where its number of departures is refused: the promise holds of every case, as `runs::run_parts`
+// takes the parts before the run's fault is known.
 #[tactic(auto, using(crate::proofs::Laws::counted_parts))]
 pub fn parts(case: Case) -> usize
     ensures { result ≡ start_parts case }

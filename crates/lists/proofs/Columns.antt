@@ -49,8 +49,6 @@ module _ {n : ℕ} {times zone : List ℤ} {part : Matrix} {cols : List ℕ} {i 
   pub row_ready : {z : List ℤ} → bounds_in z ≡ part → RowReady n z times zone cols i s
   row_ready {z} e = record {
     set = closed_in z sel.backward.source.few (rw e sel.before.closed_set);
-    table = sel.backward.table;
-    source = sel.backward.source;
     from_one = sel.before.from_one;
     to_n = row;
     cols_size = omega (arith, sel.before.long);

@@ -1,26 +1,21 @@
 -- The first numbers of a list, lent and given back; a zone of a list, loaded there.
-use Prim.Native.Nat.{ℕ, ◌+◌, ◌*◌, ◌-◌, ◌≤◌}
+use Prim.Native.Nat.{ℕ, ◌*◌, ◌≤◌, ◌<◌}
 use native.Mathlib.Omega.{arith}
-use native.Mathlib.Nat.{zero-mul, zero-add, add-sub_cancel_left}
-use mathlib.Core.Path.{◌≡◌, sym, ap, ◌∙◌}
+use native.Mathlib.Nat.{mul-le-mul_right, zero-mul, zero-add, suc-mul}
+use mathlib.Core.Path.{◌≡◌, ap, ◌∙◌}
 use mathlib.Core.List.{List, ◌++◌}
 use lib.IntN.{ℤ}
-use lib.ListN.{length, take, drop, length-drop}
-use lib.Seq.{length-take-le, length_front, take_at, drop_at, drop-drop}
-use Rattle.model.specs.Sizes.{zone_size}
-use Rattle.model.specs.Conditions.{Departures}
+use lib.ListN.{length, take, drop}
+use lib.Seq.{length-take-le, length_front, take_at, drop_at}
+use Rattle.model.proofs.Tabulated.{tabulate_ext}
 use Rattle.memory.specs.Numbers.{bounds_in}
-use Rattle.memory.specs.Conditions.{ZoneIn}
-use Rattle.memory.specs.Side.{numbers_at, Elsewhere}
-use Rattle.lists.specs.Lists.{zone_at}
-use Rattle.memory.proofs.Side.{length_numbers, else_trans}
+use Rattle.memory.specs.Side.{Elsewhere}
+use Rattle.lists.specs.Lists.{zone_at, list_in}
+use Rattle.memory.proofs.Side.{part_of_lem, else_trans}
 
 module _ (size : ℕ) (list : List ℤ) (inside : size ≤ length list) where
   pub front_long : length (take size list) ≡ size
   front_long = length-take-le size list inside
-
-  pub front_zone : {n : ℕ} → Departures n → size ≡ zone_size n → ZoneIn n (take size list)
-  front_zone d is = record { few = omega arith; size = front_long ∙ is }
 
   -- given back as out
   module _ (out : List ℤ) (same : length out ≡ length (take size list)) where
@@ -43,18 +38,21 @@ pub front_twice : (size : ℕ) (list : List ℤ) → size ≤ length list → (a
 front_twice size list inside all same out same' =
     else_trans (front_else size list inside all same) (front_else size (all ++ drop size list) (front_room size list inside all same) out same')
 
--- zone k of the list at base
-module _ (size base k : ℕ) (work : List ℤ) (there : base + k * size + size ≤ length work) where
-  abbrev source : List ℤ
-  source = take (base + k * size + size - (base + k * size)) (drop (base + k * size) work)
+-- a part of so many numbers, copied to the front, and what becomes of it there
+module _ {size : ℕ} {part copied : List ℤ} (after : copied ≡ part) (fits : length part ≡ size) (list : List ℤ) where
+  pub copied_is : take size (copied ++ drop size list) ≡ part
+  copied_is = rw after (take_at part (drop size list) size fits)
 
-  source_is : source ≡ numbers_at size (drop base work) k
-  source_is = rw add-sub_cancel_left (ap (take size) (sym (drop-drop (k * size) base work)))
+  module _ (out : List ℤ) (same : length out ≡ length (take size (copied ++ drop size list))) where
+    pub out_long : length out ≡ size
+    out_long = same ∙ ap (λ (l : List ℤ). length l) copied_is ∙ fits
 
-  pub source_long : length source ≡ size
-  source_long = rw source_is (length_numbers size (drop base work) k (omega (arith, length-drop base work)))
+    pub out_is : take size (out ++ drop size (copied ++ drop size list)) ≡ out
+    out_is = take_at out _ size out_long
 
-  -- loaded
-  pub loaded : (n : ℕ) {z : List ℤ} → size ≡ zone_size n → z ≡ source → bounds_in z ≡ zone_at (zone_size n) (drop base work) k
-  unfolding zone_at
-  loaded n is e = rw (← is) (ap bounds_in (e ∙ source_is))
+-- the numbers of a list hold its zones
+pub list_front : (size count : ℕ) (numbers : List ℤ) → list_in size count (take (count * size) numbers) ≡ list_in size count numbers
+unfolding list_in zone_at
+list_front size count numbers = tabulate_ext count 0 _ _ (λ k l u.
+    let h : k < count = omega arith in
+    ap bounds_in (part_of_lem (count * size) (k * size) size numbers (omega (arith, mul-le-mul_right size h, suc-mul k size))))

@@ -3,6 +3,7 @@ use Prim.Native.Nat.{ℕ, suc}
 use native.Mathlib.Omega.{arith}
 use native.Mathlib.Nat.{zero-mul}
 use mathlib.Core.Path.{◌≡◌, refl}
+use mathlib.Core.Bool.{Bool, true, false}
 use mathlib.Core.List.{List, [], ◌∷◌}
 use mathlib.Core.Option.{Option, none, some}
 use lib.IntN.{ℤ}
@@ -48,14 +49,14 @@ abbrev zone : ℕ → List ℤ → Option Matrix
 zone n pattern = tighten (suc n) (pattern_constraints n (bounds_in pattern))
 
 module _ {n : ℕ} {pattern : List ℤ} where
-  module _ {work after : List ℤ} {r : ℕ} (f : FirstList n pattern work after r) where
-    pub zone_none : r ≡ 0 → zone n pattern ≡ none
+  module _ {work after : List ℤ} {r : Bool} (f : FirstList n pattern work after r) where
+    pub zone_none : r ≡ false → zone n pattern ≡ none
     unfolding list_in tabulate
     zone_none e = none_of _ (rw e at f.list)
 
-    pub zone_some : (r ≡ 0 → ⊥) → zone n pattern ≡ some (bounds_in (take (zone_size n) after))
+    pub zone_some : r ≡ true → zone n pattern ≡ some (bounds_in (take (zone_size n) after))
     unfolding list_in tabulate zone_at
-    zone_some e = let one : r ≡ 1 = omega (arith, f.few) in some_of _ (rw (one, zero-mul (zone_size n)) at f.list)
+    zone_some e = some_of _ (rw (e, zero-mul (zone_size n)) at f.list)
 
   -- its bounds are small enough
   pub zone_ready : {parts : ℕ} → Wholable n pattern parts → (z : List ℤ) → zone n pattern ≡ some (bounds_in z) → length z ≡ zone_size n → StartReady n z parts

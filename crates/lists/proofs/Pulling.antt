@@ -19,7 +19,8 @@ use Rattle.model.proofs.Tabulated.{from, from_first, from_next, from_end}
 use Rattle.memory.specs.Numbers.{bounds_in, times_in}
 use Rattle.std.specs.Prelude as std
 use Rattle.lists.specs.Lists.{zone_at, list_in, ListRoom, ListHeld, Sources, Building}
-use Rattle.memory.proofs.Side.{part_of_lem}
+use Rattle.memory.specs.Side.{numbers_at}
+use Rattle.memory.proofs.Side.{length_numbers, part_of_lem}
 use Rattle.lists.proofs.Held.{held_list, held_room, held_since, held_still, held_as_is}
 
 -- a part up to the end, lent and put back
@@ -96,8 +97,11 @@ module _ {n capacity count source goal : ℕ} {times work₀ : List ℤ} {seen :
       pub source_place : source + k * zone_size n + zone_size n ≤ length work
       source_place = let l = b.halves.long in let same = g.long in ⊎_elim (λ e. omega (arith, zone_in)) (λ e. omega (arith, zone_in)) b.halves.apart
 
+      pub source_long : length (numbers_at (zone_size n) (drop source work) k) ≡ zone_size n
+      source_long = length_numbers (zone_size n) (drop source work) k (omega (arith, length-drop source work, source_place))
+
       -- and it is the zone of the list
-      pub source_same : zone_at (zone_size n) (drop source work) k ≡ zone_at (zone_size n) (drop source work₀) k
+      pub source_same : bounds_in (numbers_at (zone_size n) (drop source work) k) ≡ zone_at (zone_size n) (drop source work₀) k
       unfolding zone_at
       source_same =
           ap bounds_in

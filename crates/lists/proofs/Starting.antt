@@ -3,10 +3,11 @@ use Prim.Native.Nat.{ℕ, zero, suc, ◌-◌, ◌≤◌}
 use native.Mathlib.Omega.{arith}
 use native.Mathlib.Nat.{zero-mul}
 use mathlib.Core.Path.{◌≡◌, refl, ap, ◌∙◌}
-use mathlib.Core.List.{List, [], ◌∷◌, map}
-use mathlib.Core.Option.{Option, none, some}
+use mathlib.Core.List.{List, [], ◌∷◌, ◌++◌, map}
+use mathlib.Core.Option.{Option, some}
 use lib.IntN.{ℤ}
-use lib.ListN.{length, take, get_or, replicate}
+use lib.ListN.{length, take, drop, get_or, replicate}
+use lib.Seq.{length_front}
 use Rattle.model.specs.Sizes.{most_departures, zone_size}
 use Rattle.model.specs.Lists.{any_of}
 use Rattle.model.specs.Matrix.{Matrix, everything, tighten}
@@ -25,8 +26,14 @@ use Rattle.ahead.proofs.Keeping.{first_kept}
 use Rattle.lists.specs.Lists.{size_seen, zone_at, list_in, Sources, Joins, Meets}
 use Rattle.lists.specs.Selecting.{extensions, Selecting}
 use Rattle.lists.specs.Met.{free_at, Tables, Noted}
+use Rattle.memory.specs.Matrices.{Left}
 use Rattle.memory.specs.Side.{Elsewhere}
+use Rattle.memory.proofs.Leaving.{left_none, left_some}
+use Rattle.std.specs.Int.{from_bool}
+use mathlib.Core.Bool.{Bool, true, false}
 use Rattle.lists.specs.Inner.{parent_in, Underway}
+use Rattle.lists.proofs.Lengths.{set_room}
+use Rattle.lists.proofs.Fronts.{front_at}
 use Rattle.lists.proofs.places.Zones.{list_more}
 
 -- before row 1 only the clock's column is picked, and no set is noted: a 0 for each row
@@ -37,6 +44,14 @@ zeros : (n i : ℕ) → ◌≡◌ {A = ℕ} (get_or (replicate n 0) i 0) 0
 zeros zero i = refl
 zeros (suc n) zero = refl
 zeros (suc n) (suc i) = zeros n i
+
+-- the set of all times, put to the front of a table
+pub begun : (n : ℕ) {size : ℕ} → size ≡ zone_size n → (seen z : List ℤ) → size_seen n ≤ length seen → length z ≡ length (take size seen)
+    → bounds_in z ≡ everything (suc n)
+    → (size_seen n ≤ length (z ++ drop size seen)) × (zone_at (zone_size n) (z ++ drop size seen) 0 ≡ everything (suc n))
+begun n {size} e seen z long same is =
+    let inside : size ≤ length seen = omega (arith, set_room n, e, long) in
+    (rw (length_front seen z size same) long, rw (← e) (front_at size seen inside z same ∙ is))
 
 -- in a table that begins with the set of all times
 module _ {n : ℕ} {times zone : List ℤ} (s : Sources n times (bounds_in zone ∷ [])) (z : ZoneIn n zone)
@@ -83,11 +98,8 @@ module _ (n : ℕ) (pattern work : List ℤ) where
   abbrev target : Option Matrix
   target = tighten (suc n) (pattern_constraints n (bounds_in pattern))
 
-  pub target_none : target ≡ none → list_in (zone_size n) 0 work ≡ keep [] target
-  unfolding list_in Rattle.model.specs.Lists.tabulate keep
-  target_none e = rw e
-
-  pub target_some : {after : List ℤ} → Elsewhere (zone_size n) 0 work after → target ≡ some (zone_at (zone_size n) after 0)
-      → list_in (zone_size n) 1 after ≡ keep [] target
+  pub target_list : {after : List ℤ} → Elsewhere (zone_size n) 0 work after → {r : Bool} → Left target r (zone_at (zone_size n) after 0)
+      → list_in (zone_size n) (from_bool r) after ≡ keep [] target
   unfolding list_in Rattle.model.specs.Lists.tabulate keep any_of
-  target_some x e = rw e (list_more x)
+  target_list x {r = false} left = rw (left_none left refl)
+  target_list x {r = true} left = rw (left_some left refl) (list_more x)

@@ -45,15 +45,16 @@ last_sets n a d part cols s = extensions_end n a d (with_column n a d part cols 
 
 pub taken_last : {n capacity count : ℕ} {list times zone table seen : List ℤ} {counts cols : List ℕ} {s : ℕ} {r : std.Option ℕ} {list' seen' : List ℤ}
     → TakeReady n capacity count list times zone table seen counts cols n s
-    → PutLast n capacity count (left_of n times zone seen counts cols n s) list seen counts r list' seen' → length seen' ≡ length seen
-    → Selected n capacity n times zone (taken n count list times zone seen counts cols n s) list seen counts cols r list' seen' counts cols
+    → {counts' cols' : List ℕ} → PutLast n capacity count n (left_of n times zone seen counts cols n s) list seen counts cols r list' seen' counts' cols'
+    → length seen' ≡ length seen
+    → Selected n capacity n times zone (taken n count list times zone seen counts cols n s) list seen counts cols r list' seen' counts' cols'
 taken_last {n} {times} {zone} {seen} {counts} {cols} {s} t p long =
     let one = last_sets n (times_in times) (bounds_in zone) (parent_in n seen counts n) (take n cols) s in
-    record {
+    rw (p.counts_same, p.cols_same) (record {
       held = rw one p.held;
       noted = rw one (noted_on (noted_placed t.select.noted n p.elsewhere long) (left_of n times zone seen counts cols n s ∷ []));
       rows = rows_placed (omega arith) p.elsewhere;
-    }
+    })
 
 -- ---- a column that does not fit
 module _ {n capacity count : ℕ} {list times zone table seen : List ℤ} {counts cols : List ℕ} {i s : ℕ}

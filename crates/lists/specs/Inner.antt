@@ -78,14 +78,22 @@ unfoldable pub column_sets : ℕ → List Time → Matrix → Matrix → List �
 column_sets n a d part cols i s = extensions n a d (with_column n a d part cols i s) (cols ++ (s ∷ [])) (suc i) (suc n - suc i)
 
 -- ---- the list
--- the set of a full selection can be put to it
-pub record PutReady (n capacity count : ℕ) (list times zone seen : List ℤ) (counts cols : List ℕ) (s : ℕ) : Type 0 where
-  pub room : ListRoom (zone_size n) capacity count list
-  pub column : ColumnReady n times zone seen counts cols n s
+-- its length, where it has room for all
+abbrev pub counted : {A : Type 0} → std.Option A → ℕ → std.Option ℕ
+counted std.None kept = std.None
+counted (std.Some u) kept = std.Some kept
 
-pub record PutLast (n capacity count : ℕ) (o : Option Matrix) (list seen : List ℤ) (counts : List ℕ) (r : std.Option ℕ) (list' seen' : List ℤ) : Type 0 where
+-- the set of a full selection can be put to it
+pub record PutReady (n capacity count : ℕ) (list times zone seen : List ℤ) (counts cols : List ℕ) (i s : ℕ) : Type 0 where
+  pub room : ListRoom (zone_size n) capacity count list
+  pub column : ColumnReady n times zone seen counts cols i s
+
+pub record PutLast (n capacity count i : ℕ) (o : Option Matrix) (list seen : List ℤ) (counts cols : List ℕ)
+    (r : std.Option ℕ) (list' seen' : List ℤ) (counts' cols' : List ℕ) : Type 0 where
   pub held : ListHeld (zone_size n) capacity (keep (list_in (zone_size n) count list) o) r list list'
-  pub elsewhere : Elsewhere (zone_size n) (free_at n counts n) seen seen'
+  pub elsewhere : Elsewhere (zone_size n) (free_at n counts i) seen seen'
+  pub counts_same : counts' ≡ counts
+  pub cols_same : cols' ≡ cols
 
 -- nothing before row i has changed, and there is a column for each row as before
 pub record RowsFrom (n i : ℕ) (seen seen' : List ℤ) (counts counts' cols cols' : List ℕ) : Type 0 where

@@ -1,6 +1,7 @@
 -- Lists of zones in memory, and how a list that is made anew is handed back.
-use Rattle.std.specs.Prelude.{ℕ, suc, ◌+◌, ◌*◌, ◌≤◌, ◌<◌, ◌≡◌, ◌⊎◌, cond, List, [], ◌∷◌, ℤ, ltb, length, take, drop}
+use Rattle.std.specs.Prelude.{ℕ, suc, ◌+◌, ◌*◌, ◌≤◌, ◌<◌, ◌≡◌, ◌⊎◌, Bool, cond, List, [], ◌∷◌, ℤ, ltb, length, take, drop}
 use Rattle.std.specs.Prelude as std
+use Rattle.std.specs.Int.{from_bool}
 use Rattle.std.proofs.Math.Option.{Option, none, some}
 use Rattle.model.specs.Sizes.{few_departures, most_departures, most_numbers, zone_size, workspace_size}
 use Rattle.model.specs.Lists.{tabulate, Every}
@@ -99,10 +100,9 @@ pub record Meets (n : ℕ) (pattern : List ℤ) (zs : List Matrix) : Type 0 wher
   pub limits : PatternIn n pattern
   pub each : Every (Joins n (bounds_in pattern)) zs
 
--- list 0: the target, or nothing. Free: the numbers of the first zone, where there is nothing
-pub record FirstList (n : ℕ) (pattern work work' : List ℤ) (r : ℕ) : Type 0 where
-  pub list : list_in (zone_size n) r work' ≡ keep [] (tighten (suc n) (pattern_constraints n (bounds_in pattern)))
-  pub few : r ≤ 1
+-- list 0: the target, or nothing, and then r is false. Free: the numbers of the first zone, where there is nothing
+pub record FirstList (n : ℕ) (pattern work work' : List ℤ) (r : Bool) : Type 0 where
+  pub list : list_in (zone_size n) (from_bool r) work' ≡ keep [] (tighten (suc n) (pattern_constraints n (bounds_in pattern)))
   pub beyond : drop (zone_size n) work' ≡ drop (zone_size n) work
 
 -- what the first zone of a list that meets the pattern has in common with it has times in so many parts

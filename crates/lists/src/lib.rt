@@ -4,21 +4,22 @@
 ghost use Rattle.std.specs.Prelude.{◌≡◌, suc, ◌+◌, ◌*◌, ◌-◌, ◌≤◌, length, take, drop};
 ghost use Rattle.std.proofs.Math.Option.{some};
 ghost use mathlib.Core.List.{[], ◌∷◌, map, foldl};
-ghost use Rattle.model.specs.Sizes.{zone_size};
+ghost use Rattle.model.specs.Sizes.{most_departures, zone_size};
 ghost use Rattle.model.specs.Matrix.{everything};
 ghost use Rattle.model.specs.Search.{keep, preimage, selections, first_common};
 ghost use Rattle.memory.specs.Numbers.{bounds_in, times_in};
-ghost use Rattle.memory.specs.Conditions.{TimeCell};
+ghost use Rattle.memory.specs.Conditions.{TimeCell, ZoneIn};
 ghost use Rattle.lists.specs.Lists.{zone_at, list_in, ListHeld, Building, NextList, Meets, FirstList, Meeting, found_by, Wholable, WholeOf};
 ghost use Rattle.lists.specs.Selecting.{extensions, with_column};
 ghost use Rattle.lists.specs.Met.{free_at, unmet};
 ghost use Rattle.lists.specs.Inner.{PlacedAt, AddReady, parent_in, ColumnReady, left_of, column_sets};
-ghost use Rattle.lists.specs.Inner.{PutReady, PutLast, SelectReady, TakeReady, Selected, PullReady};
+ghost use Rattle.lists.specs.Inner.{counted, PutReady, PutLast, SelectReady, TakeReady, Selected, PullReady};
 
+use ahead::Outlook;
 use ints::Seconds;
 use memory::{holds_time, zone_size};
-use model::{DEPARTURES, NUMBERS};
-use zones::Choice;
+use model::{DEPARTURES, NUMBERS, ROWS};
+use zones::{Choice, Target};
 
 mod met;
 mod places;
@@ -27,9 +28,6 @@ mod places;
 pub const SMALL: usize = 5;
 
 pub const MIDDLE: usize = model::FEW;
-
-// A row for each departure, and one for the clock.
-const ROWS: usize = DEPARTURES + 1;
 
 // The numbers of a table in which the sets met are kept: for a small, a middling and a large network.
 pub const SMALL_SEEN: usize = (SMALL + 1) * (met::MANY + 1) * ((SMALL + 1) * (SMALL + 1));
@@ -45,6 +43,16 @@ pub struct ZoneList {
     pub count: usize,
 }
 
+impl ZoneList {
+    // The numbers of its zones.
+    pub fn numbers(self, work: &[i32], n: usize) -> &[i32]
+        requires { (n ≤ most_departures) × (self.base + self.count * zone_size n ≤ length work.now) }
+        ensures { result.now ≡ take (self.count * zone_size n) (drop self.base work.now) }
+    {
+        &work[self.base..self.base + self.count * zone_size(n)]
+    }
+}
+
 // How each list is made from the one before it: through the table of n departures, with room for so many zones.
 #[derive(Clone, Copy)]
 pub struct Making<'a> {
@@ -53,117 +61,111 @@ pub struct Making<'a> {
     pub times: &'a [i32],
 }
 
-// A zone that is pulled back through the table of n departures: its numbers, what it needs of each column, and how many zones the list has room for.
+// A zone that is pulled back through a table, what it needs of each column, and how many zones the list has room for.
 #[derive(Clone, Copy)]
-struct Pull<'a> {
-    n: usize,
+struct Pull<'a, 'b> {
+    target: Target<'a, i32>,
+    table: &'b [i64],
     capacity: usize,
-    times: &'a [i32],
-    zone: &'a [i32],
-    table: &'a [i64],
+    ghost needs_in: { ZoneIn target.n table.now },
 }
 
-// A selection under way: the column of each row, and how many sets are noted after it.
+impl<'a, 'b> Pull<'a, 'b> {
+    // What the times and the table show ahead.
+    fn outlook(self) -> Outlook<'a, 'b>
+        ensures { let t = self.entry.target in (result.times.now ≡ t.times.now) × (result.table.now ≡ self.entry.table.now) × (result.n ≡ t.n) }
+    {
+        Outlook {
+            times: self.target.times,
+            table: self.table,
+            n: self.target.n,
+        }
+    }
+}
+
+// A selection under way: the column of each row, how many sets are noted after it, and how many zones the list has so far.
 #[derive(Drop)]
 struct Path {
     cols: [usize; ROWS],
     counts: [usize; ROWS],
+    kept: usize,
 }
 
-// What column s of row i leaves of the zone at place k of a list, in place. False where that is nothing.
-fn add_at(list: &mut [i32], k: usize, pull: Pull, cols: &[usize], i: usize, s: usize) -> bool
-    requires { AddReady pull.n k list.old pull.times.now pull.zone.now cols.now i s }
-    ensures { let p = pull.entry in PlacedAt (zone_size p.n) k
-        (with_column p.n (times_in p.times.now) (bounds_in p.zone.now) (zone_at (zone_size p.n) list.old k)
-        (take i cols.now) i s)
+// What a column leaves of the zone at place k of a list, in place. False where that is nothing.
+fn add_at(list: &mut [i32], k: usize, target: Target<i32>, cols: &[usize], choice: Choice) -> bool
+    requires { AddReady target.n k list.old target.times.now target.zone.now cols.now choice.row choice.column }
+    ensures { let t = target.entry in PlacedAt (zone_size t.n) k
+        (with_column t.n (times_in t.times.now) (bounds_in t.zone.now) (zone_at (zone_size t.n) list.old k)
+        (take choice.row cols.now) choice.row choice.column)
         list.old result list.new }
 {
-    let n = pull.n;
-    let size = zone_size(n);
+    let size = zone_size(target.n);
     let base = k * size;
     let end = base + size;
-    zones::add_row(
-        &mut list[base..end],
-        pull.times,
-        pull.zone,
-        &cols[..i],
-        n,
-        i,
-        s,
-    )
+    zones::add_row(&mut list[base..end], target, &cols[..choice.row], choice)
 }
 
-// Builds, at the place of the next zone of the list, what column s of the last row leaves of the set at the free place of the row before. False where that
+// Builds, at the place of the next zone of the list, what a column of the last row leaves of the set at the free place of the row before. False where that
 // is nothing, or in the list already.
-fn next_zone(
-    list: &mut [i32],
-    count: usize,
-    pull: Pull,
-    seen: &[i32],
-    path: &Path,
-    s: usize,
-) -> bool
-    requires { ColumnReady pull.n pull.times.now pull.zone.now seen.now path.now.counts path.now.cols pull.n s
-        × (count * zone_size pull.n + zone_size pull.n ≤ length list.old) }
-    ensures { let p = pull.entry in PlacedAt (zone_size p.n) count
-        (unmet (list_in (zone_size p.n) count list.old)
-        (left_of p.n p.times.now p.zone.now seen.now path.now.counts path.now.cols p.n s))
+fn next_zone(list: &mut [i32], pull: Pull, seen: &[i32], path: &Path, choice: Choice) -> bool
+    requires { ColumnReady pull.target.n pull.target.times.now pull.target.zone.now seen.now path.now.counts path.now.cols choice.row choice.column
+        × (path.now.kept * zone_size pull.target.n + zone_size pull.target.n ≤ length list.old) }
+    ensures { let t = pull.entry.target in PlacedAt (zone_size t.n) path.now.kept
+        (unmet (list_in (zone_size t.n) path.now.kept list.old)
+        (left_of t.n t.times.now t.zone.now seen.now path.now.counts path.now.cols choice.row choice.column))
         list.old result list.new }
 {
-    let n = pull.n;
+    let n = pull.target.n;
     let size = zone_size(n);
-    let base = met::free(&path.counts, n, n - 1) * size;
-    let end = base + size;
-    places::store(list, count, &seen[base..end], size);
-    if !add_at(list, count, pull, &path.cols, n, s) {
-        return false;
-    }
-    !places::has_at(list, 0, count, count, size)
+    let count = path.kept;
+    let parent = met::free(&path.counts, n, choice.row - 1);
+    places::store(list, count, places::at(seen, parent, size));
+    add_at(list, count, pull.target, &path.cols, choice)
+        && !places::has(list, 0, count, places::at(list, count, size))
 }
 
-// The same where the list has no place left: the set is built beside, in the last row's free place.
-fn beside(list: &[i32], count: usize, pull: Pull, seen: &mut [i32], path: &Path, s: usize) -> bool
-    requires { ColumnReady pull.n pull.times.now pull.zone.now seen.old path.now.counts path.now.cols pull.n s
-        × (count * zone_size pull.n ≤ length list.now) }
-    ensures { let p = pull.entry in PlacedAt (zone_size p.n) (free_at p.n path.now.counts p.n)
-        (unmet (list_in (zone_size p.n) count list.now)
-        (left_of p.n p.times.now p.zone.now seen.old path.now.counts path.now.cols p.n s))
+// The same where the list has no place left: the set is built beside, in the row's free place.
+fn beside(list: &[i32], pull: Pull, seen: &mut [i32], path: &Path, choice: Choice) -> bool
+    requires { ColumnReady pull.target.n pull.target.times.now pull.target.zone.now seen.old path.now.counts path.now.cols choice.row choice.column
+        × (path.now.kept * zone_size pull.target.n ≤ length list.now) }
+    ensures { let t = pull.entry.target in PlacedAt (zone_size t.n) (free_at t.n path.now.counts choice.row)
+        (unmet (list_in (zone_size t.n) path.now.kept list.now)
+        (left_of t.n t.times.now t.zone.now seen.old path.now.counts path.now.cols choice.row choice.column))
         seen.old result seen.new }
 {
-    let n = pull.n;
-    if !met::grow(seen, path, pull, n, s) {
-        return false;
-    }
+    let n = pull.target.n;
     let size = zone_size(n);
-    let base = met::free(&path.counts, n, n) * size;
-    let end = base + size;
-    !places::has(list, 0, count, &seen[base..end], size)
+    let here = met::free(&path.counts, n, choice.row);
+    met::grow(seen, path, pull.target, choice)
+        && !places::has(list, 0, path.kept, places::at(seen, here, size))
 }
 
 // The set of a full selection, put to the list: it is kept by counting it. None where the list has no room for it.
 fn put_last(
     list: &mut [i32],
-    count: usize,
     pull: Pull,
     seen: &mut [i32],
-    path: &Path,
-    s: usize,
-) -> Option<usize>
-    requires { PutReady pull.n pull.capacity count list.old pull.times.now pull.zone.now seen.old path.now.counts path.now.cols s }
-    ensures { let p = pull.entry in PutLast p.n p.capacity count
-        (left_of p.n p.times.now p.zone.now seen.old path.now.counts path.now.cols p.n s)
-        list.old seen.old path.now.counts result list.new seen.new }
+    path: &mut Path,
+    choice: Choice,
+) -> Option<()>
+    requires { PutReady pull.target.n pull.capacity path.old.kept list.old pull.target.times.now pull.target.zone.now seen.old
+        path.old.counts path.old.cols choice.row choice.column }
+    ensures { let t = pull.entry.target in PutLast t.n pull.entry.capacity path.old.kept choice.row
+        (left_of t.n t.times.now t.zone.now seen.old path.old.counts path.old.cols choice.row choice.column)
+        list.old seen.old path.old.counts path.old.cols
+        (counted result path.new.kept) list.new seen.new path.new.counts path.new.cols }
 {
-    if count == pull.capacity {
-        if beside(list, count, pull, seen, path, s) {
+    if path.kept == pull.capacity {
+        if beside(list, pull, seen, path, choice) {
             return None;
         }
-        return Some(count);
+        return Some(());
     }
-    if next_zone(list, count, pull, seen, path, s) {
-        return Some(count + 1);
+    if !next_zone(list, pull, seen, path, choice) {
+        return Some(());
     }
-    Some(count)
+    path.kept += 1;
+    Some(())
 }
 
 // The sets of the selections with one column in a row, put to the list. Of a column that does not fit what the zone needs, and of a set for which a row has
@@ -171,74 +173,67 @@ fn put_last(
 #[cycle(select_take_column)]
 fn take_column(
     list: &mut [i32],
-    count: usize,
     pull: Pull,
     seen: &mut [i32],
     path: &mut Path,
     choice: Choice,
-) -> Option<usize>
-    requires { TakeReady pull.n pull.capacity count list.old pull.times.now pull.zone.now pull.table.now seen.old path.old.counts path.old.cols
-        choice.row choice.column }
-    ensures { let p = pull.entry in Selected p.n p.capacity choice.row p.times.now p.zone.now
-        (foldl keep (list_in (zone_size p.n) count list.old)
-        (column_sets p.n (times_in p.times.now) (bounds_in p.zone.now)
-        (parent_in p.n seen.old path.old.counts choice.row) (take choice.row path.old.cols) choice.row choice.column))
+) -> Option<()>
+    requires { TakeReady pull.target.n pull.capacity path.old.kept list.old pull.target.times.now pull.target.zone.now pull.table.now seen.old
+        path.old.counts path.old.cols choice.row choice.column }
+    ensures { let t = pull.entry.target in Selected t.n pull.entry.capacity choice.row t.times.now t.zone.now
+        (foldl keep (list_in (zone_size t.n) path.old.kept list.old)
+        (column_sets t.n (times_in t.times.now) (bounds_in t.zone.now)
+        (parent_in t.n seen.old path.old.counts choice.row) (take choice.row path.old.cols) choice.row choice.column))
         list.old seen.old path.old.counts path.old.cols
-        result list.new seen.new path.new.counts path.new.cols }
+        (counted result path.new.kept) list.new seen.new path.new.counts path.new.cols }
 {
-    let Choice { row: i, column: s } = choice;
-    if met::unfit(seen, path, pull, i, s) {
-        return Some(count);
+    if met::unfit(seen, path, pull, choice) {
+        return Some(());
     }
-    if i == pull.n {
-        return put_last(list, count, pull, seen, path, s);
+    let i = choice.row;
+    if i == pull.target.n {
+        return put_last(list, pull, seen, path, choice);
     }
-    if !met::fresh(seen, path, pull, i, s) {
-        return Some(count);
+    if !met::fresh(seen, path, pull.target, choice) {
+        return Some(());
     }
-    path.cols[i] = s;
+    path.cols[i] = choice.column;
     if met::shut(seen, path, pull, i) {
-        return Some(count);
+        return Some(());
     }
-    let more = select(list, count, pull, seen, path, i + 1)?;
-    met::note(path, pull.n, i);
-    Some(more)
+    select(list, pull, seen, path, i + 1)?;
+    met::note(path, pull.target.n, i);
+    Some(())
 }
 
 // The sets of the selections with any columns in rows i to n, put to the list. A set noted after its row would add nothing. None where the list has no room.
 #[cycle(select_take_column)]
-fn select(
-    list: &mut [i32],
-    count: usize,
-    pull: Pull,
-    seen: &mut [i32],
-    path: &mut Path,
-    i: usize,
-) -> Option<usize>
-    requires { SelectReady pull.n pull.capacity count list.old pull.times.now pull.zone.now pull.table.now seen.old path.old.counts path.old.cols i }
-    ensures { let p = pull.entry in Selected p.n p.capacity i p.times.now p.zone.now
-        (foldl keep (list_in (zone_size p.n) count list.old)
-        (extensions p.n (times_in p.times.now) (bounds_in p.zone.now)
-        (some (parent_in p.n seen.old path.old.counts i)) (take i path.old.cols) i (suc p.n - i)))
+fn select(list: &mut [i32], pull: Pull, seen: &mut [i32], path: &mut Path, i: usize) -> Option<()>
+    requires { SelectReady pull.target.n pull.capacity path.old.kept list.old pull.target.times.now pull.target.zone.now pull.table.now seen.old
+        path.old.counts path.old.cols i }
+    ensures { let t = pull.entry.target in Selected t.n pull.entry.capacity i t.times.now t.zone.now
+        (foldl keep (list_in (zone_size t.n) path.old.kept list.old)
+        (extensions t.n (times_in t.times.now) (bounds_in t.zone.now)
+        (some (parent_in t.n seen.old path.old.counts i)) (take i path.old.cols) i (suc t.n - i)))
         list.old seen.old path.old.counts path.old.cols
-        result list.new seen.new path.new.counts path.new.cols }
+        (counted result path.new.kept) list.new seen.new path.new.counts path.new.cols }
 {
-    let mut so_far = count;
-    for s in 1..pull.n + 1 {
-        if holds_time(pull.times, pull.n, i, s) {
+    let Target { times, n, .. } = pull.target;
+    for s in 1..n + 1 {
+        if holds_time(times, n, i, s) {
             let choice = Choice { row: i, column: s };
-            so_far = take_column(list, so_far, pull, seen, path, choice)?;
+            take_column(list, pull, seen, path, choice)?;
         }
     }
-    Some(so_far)
+    Some(())
 }
 
 // The preimages of a zone by all selections, put to the list. None where it has no room for them.
-fn pull_back(
+fn pull_back<'a>(
     list: &mut [i32],
     count: usize,
-    making: Making,
-    zone: &[i32],
+    making: Making<'a>,
+    zone: &'a [i32],
     seen: &mut [i32],
 ) -> Option<usize>
     requires { PullReady making.n making.capacity count list.old making.times.now zone.now seen.old }
@@ -250,23 +245,25 @@ fn pull_back(
     let Making { n, capacity, times } = making;
     let size = zone_size(n);
     zones::everything(&mut seen[..size], n);
+    let target = Target { times, zone, n };
     let mut table = [0i64; NUMBERS];
-    ahead::needs(&mut table[..size], times, zone, n);
+    ahead::needs(&mut table[..size], target);
     let pull = Pull {
-        n,
-        capacity,
-        times,
-        zone,
+        target,
         table: &table[..size],
+        capacity,
     };
     let mut path = Path {
         cols: [0; ROWS],
         counts: [0; ROWS],
+        kept: count,
     };
-    select(list, count, pull, seen, &mut path, 1)
+    select(list, pull, seen, &mut path, 1)?;
+    Some(path.kept)
 }
 
 // The list made from another, at goal: its length, or that it has no room. Nothing of the workspace outside the half at goal changes.
+// By index, each zone copied: cut in two by `split_at_mut` it needs a loop of its own, called for either order of the halves, and is longer in code and proof.
 pub fn next_list(
     work: &mut [i32],
     source: ZoneList,
@@ -283,25 +280,20 @@ pub fn next_list(
     let mut zone = [0i32; NUMBERS];
     let mut made = 0;
     for k in 0..count {
-        let from = base + k * size;
-        let to = from + size;
-        zone[..size].copy_from_slice(&work[from..to]);
+        zone[..size].copy_from_slice(places::at(&work[base..], k, size));
         made = pull_back(&mut work[goal..], made, making, &zone[..size], seen)?;
     }
     Some(made)
 }
 
-// List 0, at the front of the workspace: the target, or nothing, and then the numbers of the first zone are free.
-pub fn first_list(work: &mut [i32], pattern: &[i32], n: usize) -> usize
+// List 0, at the front of the workspace: the target. False where that is nothing, and then the numbers of the first zone are free.
+pub fn first_list(work: &mut [i32], pattern: &[i32], n: usize) -> bool
     requires { Meets n pattern.now (everything (suc n) ∷ []) × (zone_size n ≤ length work.old) }
     ensures { FirstList n pattern.now work.old work.new result }
 {
     let size = zone_size(n);
     zones::everything(&mut work[..size], n);
-    if !zones::common(&mut work[..size], pattern, n) {
-        return 0;
-    }
-    1
+    zones::common(&mut work[..size], pattern, n)
 }
 
 // The start, in parts, picked in what the first zone of the list that meets the pattern has in common with it, if one does. That is tightened beside,
@@ -316,13 +308,10 @@ pub fn first_common(
     requires { Meeting n parts list.base list.count work.now pattern.now }
     ensures { result ≡ found_by n parts (first_common n (bounds_in pattern.now) (list_in (zone_size n) list.count (drop list.base work.now))) }
 {
-    let ZoneList { base, count } = list;
     let size = zone_size(n);
     let mut zone = [0i32; NUMBERS];
-    for k in 0..count {
-        let from = base + k * size;
-        let to = from + size;
-        zone[..size].copy_from_slice(&work[from..to]);
+    for part in list.numbers(work, n).chunks_exact(size) {
+        zone[..size].copy_from_slice(part);
         if zones::common(&mut zone[..size], pattern, n) {
             return Some(starts::start(&zone[..size], n, parts));
         }
@@ -336,7 +325,7 @@ pub fn whole_pattern(pattern: &[i32], n: usize, parts: usize) -> Option<[i64; NU
     ensures { WholeOf n pattern.now parts result }
 {
     let mut zone = [0i32; NUMBERS];
-    if first_list(&mut zone, pattern, n) == 0 {
+    if !first_list(&mut zone, pattern, n) {
         return None;
     }
     Some(starts::whole_zone(&zone[..zone_size(n)], n, parts))

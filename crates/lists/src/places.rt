@@ -7,39 +7,47 @@ ghost use Rattle.model.specs.Matrix.{same_matrix};
 ghost use Rattle.memory.specs.Numbers.{bounds_in};
 ghost use Rattle.memory.specs.Side.{numbers_at};
 ghost use Rattle.lists.specs.Lists.{zone_at};
-ghost use Rattle.lists.specs.Comparing.{Comparing, Other};
+ghost use Rattle.lists.specs.Comparing.{Other};
 
-// The first place at which zone k of the list is another than this one, if it is another.
-fn first_other(list: &[i32], k: usize, zone: &[i32], size: usize) -> Option<usize>
-    requires { Comparing list.now k zone.now size }
-    ensures { Other size list.now k zone.now result }
+// The numbers of zone k of the list.
+pub(crate) fn at(list: &[i32], k: usize, size: usize) -> &[i32]
+    requires { k * size + size ≤ length list.now }
+    ensures { result.now ≡ numbers_at size list.now k }
 {
     let base = k * size;
+    &list[base..base + size]
+}
+
+// The first place at which zone k of the list is another than this one, if it is another.
+fn first_other(list: &[i32], k: usize, zone: &[i32]) -> Option<usize>
+    requires { k * length zone.now + length zone.now ≤ length list.now }
+    ensures { Other list.now k zone.now result }
+{
     zone.iter()
-        .zip(&list[base..base + size])
+        .zip(at(list, k, zone.len()))
         .position(|(a, b)| a != b)
 }
 
 // Place p, if there is such a place, shows that zone k of the list is another than this one.
-fn apart(list: &[i32], k: usize, zone: &[i32], size: usize, p: usize) -> bool
-    requires { Comparing list.now k zone.now size }
-    ensures { result ≡ true → same_matrix (bounds_in zone.now) (zone_at size list.now k) ≡ false }
+fn apart(list: &[i32], k: usize, zone: &[i32], p: usize) -> bool
+    requires { k * length zone.now + length zone.now ≤ length list.now }
+    ensures { result ≡ true → same_matrix (bounds_in zone.now) (zone_at (length zone.now) list.now k) ≡ false }
 {
-    p < size && zone[p] != list[k * size + p]
+    p < zone.len() && zone[p] != list[k * zone.len() + p]
 }
 
 // Some zone of the list, from zone first on and before zone end, is this one. The last ones are looked at first: a set that is made again was
 // most often made a short while ago. Of each the place comes first at which the one before was another: most often it is another there too.
-pub(crate) fn has(list: &[i32], first: usize, end: usize, zone: &[i32], size: usize) -> bool
-    requires { (length zone.now ≡ size) × (first ≤ end) × (end * size ≤ length list.now) }
-    ensures { result ≡ any_of (same_matrix (bounds_in zone.now)) (tabulate (end - first) first (zone_at size list.now)) }
+pub(crate) fn has(list: &[i32], first: usize, end: usize, zone: &[i32]) -> bool
+    requires { (first ≤ end) × (end * length zone.now ≤ length list.now) }
+    ensures { result ≡ any_of (same_matrix (bounds_in zone.now)) (tabulate (end - first) first (zone_at (length zone.now) list.now)) }
 {
     let mut p = 0;
     for k in (first..end).rev() {
-        if apart(list, k, zone, size, p) {
+        if apart(list, k, zone, p) {
             continue;
         }
-        match first_other(list, k, zone, size) {
+        match first_other(list, k, zone) {
             None => return true,
             Some(other) => p = other,
         }
@@ -47,23 +55,13 @@ pub(crate) fn has(list: &[i32], first: usize, end: usize, zone: &[i32], size: us
     false
 }
 
-// The same, for zone k of the list itself.
-pub(crate) fn has_at(list: &[i32], first: usize, end: usize, k: usize, size: usize) -> bool
-    requires { (first ≤ end) × (end * size ≤ length list.now) × (k * size + size ≤ length list.now) }
-    ensures { result ≡ any_of (same_matrix (zone_at size list.now k)) (tabulate (end - first) first (zone_at size list.now)) }
-{
-    let base = k * size;
-    let behind = base + size;
-    has(list, first, end, &list[base..behind], size)
-}
-
 // The zone, as zone k of the list.
-pub(crate) fn store(list: &mut [i32], k: usize, zone: &[i32], size: usize)
-    requires { (length zone.now ≡ size) × (k * size + size ≤ length list.old) }
-    ensures { list.new ≡ paste list.old (k * size) zone.now size }
+pub(crate) fn store(list: &mut [i32], k: usize, zone: &[i32])
+    requires { k * length zone.now + length zone.now ≤ length list.old }
+    ensures { list.new ≡ paste list.old (k * length zone.now) zone.now (length zone.now) }
 {
-    let base = k * size;
-    list[base..base + size].copy_from_slice(zone);
+    let base = k * zone.len();
+    list[base..base + zone.len()].copy_from_slice(zone);
 }
 
 // The zone at one place, copied to a later place.

@@ -1,4 +1,4 @@
--- The laws that the functions' proofs share. A caller's proof cites Places, Arrays, Cased and Zipped, and the laws of the loops over matrices, which hold
+-- The laws that the functions' proofs share. A caller's proof cites Places, Arrays and Zipped, and the laws of the loops over matrices, which hold
 -- of numbers of any width: Fills, Relaxing, Toward, Leaving, Picked.
 pub mod InHalves
 pub mod Numbers

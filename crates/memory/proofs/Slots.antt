@@ -1,5 +1,6 @@
 -- The entries of a case as numbers, one by one.
 use Prim.Native.Nat.{ℕ, ◌+◌, ◌≤◌, ◌<◌}
+use native.Mathlib.Omega.{arith}
 use native.Mathlib.Numerals.{add-one}
 use mathlib.Core.Path.{◌≡◌}
 use mathlib.Core.List.{List, ◌∷◌, [], map, map-append}
@@ -10,13 +11,21 @@ use borrow.Author.Tests.{ltb-false}
 use Rattle.std.proofs.Common.{Some, None}
 use Rattle.ints.specs.declared.Seconds.{Seconds}
 use Rattle.model.specs.declared.Limit.{Limit}
-use Rattle.model.specs.Faults.{Entry, beyond, stated, bound_of}
+use Rattle.model.specs.Sizes.{bound_limit}
+use Rattle.model.specs.Network.{secs_of}
+use Rattle.model.specs.Faults.{Entry, beyond, stated, time_of, bound_of}
 use Rattle.model.specs.Conditions.{InLimit, Small, free, sized}
+use Rattle.memory.specs.Numbers.{none_in}
 
 -- the size of one that is there
 pub in_limit : {L : ℕ} (x : Seconds) → InLimit L (Some x) → nat_abs x.0 ≤ L
 unfolding beyond
 in_limit {L} x l = ltb-false L (nat_abs x.0) l
+
+pub small_time : (e : Entry Seconds) → InLimit bound_limit e → nat_abs (secs_of (time_of e)) < none_in
+unfolding time_of secs_of
+small_time None l = omega arith
+small_time (Some x) l = omega (arith, in_limit x l)
 
 pub small_entry : {L : ℕ} (e : Entry Limit) → InLimit L (stated e) → Small L (bound_of e)
 unfolding bound_of

@@ -1,25 +1,28 @@
 // Numbers in memory: the bounds of zones and of patterns, and the times of the table.
 #![tactic(auto)]
 
-ghost use Rattle.std.specs.Prelude.{◌≡◌, ℕ, List, true, ◌||◌, map, suc, ◌+◌, ◌*◌, ◌≤◌, ◌<◌, pos, ◌-ℤ◌, nat_abs, length, set, take};
+ghost use Rattle.std.specs.Prelude.{◌≡◌, ℕ, List, true, ◌&&◌, ◌||◌, map, suc, ◌+◌, ◌*◌, ◌≤◌, ◌<◌, pos, ◌-ℤ◌, nat_abs, length, set, take};
 ghost use Rattle.std.specs.List.{All, AllZip};
 ghost use Rattle.std.specs.Int.Signed.{lt_z};
 ghost use Rattle.model.specs.Sizes.{most_departures, bound_limit, table_size, pattern_size, zone_size, most_bounds, most_times_at_once};
 ghost use Rattle.model.specs.Lists.{Every};
 ghost use Rattle.model.specs.Bound.{Bound, upto, most, LeB, plus, tighter, negative};
 ghost use Rattle.model.specs.Matrix.{entry, diagonal};
-ghost use Rattle.model.specs.Pattern.{pair_bound, only_differences};
-ghost use Rattle.model.specs.Network.{Time, time, is_time};
+ghost use Rattle.model.specs.Pattern.{pair_bound, is_none, only_differences};
+ghost use Rattle.model.specs.Network.{Time, secs_of, time, is_time};
 ghost use Rattle.model.specs.Search.{slack};
-ghost use Rattle.model.specs.Faults.{time_of, bound_of, stated};
-ghost use Rattle.model.specs.Conditions.{Small, InLimit};
-ghost use Rattle.memory.specs.Numbers.{of_halves, bound_in, time_in, bounds_in, times_in, as_bound, InMemory, Limit, Widest};
+ghost use Rattle.std.proofs.Math.Option.{none};
+ghost use Rattle.model.specs.Faults.{time_of, bound_of, case_fault};
+ghost use Rattle.model.specs.Conditions.{Small, InLimit, BoundInLimit};
+ghost use Rattle.memory.specs.Numbers.{of_halves, none_in, bound_in, time_in, bounds_in, times_in, as_bound, InMemory, Limit, Widest};
 ghost use Rattle.memory.specs.Numbers.{bounds_mapped, times_mapped, narrow_room};
 ghost use Rattle.memory.specs.Wide as Wide;
+ghost use Rattle.memory.specs.Networks.{CaseIn};
 ghost use Rattle.memory.specs.Conditions.{PatternIn, ReadWithin, TimeWithin, PlaceOf, ZoneCell, PairCell, TimeCell};
 
 use ints::Seconds;
-use model::{BOUNDS, Limit};
+use model::{BOUNDS, Case, Limit};
+use std::marker::Model;
 use std::ops::Add;
 
 // Stands for no bound, and for a blank.
@@ -84,7 +87,7 @@ impl Number {
     // A bound of a case.
     #[tactic(auto, using(crate::proofs::Slots::in_limit), unfolding(model::specs::Faults::bound_of))]
     fn of(limit: Option<Limit>) -> Number
-        requires { InLimit bound_limit (stated limit) }
+        requires { BoundInLimit limit }
         ensures { as_bound result ≡ bound_of limit }
     {
         match limit {
@@ -278,8 +281,8 @@ impl Stored for i64 {
 }
 
 // The number in memory that stands for a time.
-fn raw_time(entry: Option<Seconds>) -> i32
-    requires { InLimit bound_limit entry }
+pub fn raw_time(entry: Option<Seconds>) -> i32
+    requires { nat_abs (secs_of (time_of entry)) < none_in }
     ensures { time_in result ≡ time_of entry }
 {
     let Some(time) = entry else {
@@ -290,7 +293,7 @@ fn raw_time(entry: Option<Seconds>) -> i32
 
 // The number in memory that stands for a bound of a case.
 fn raw_bound(entry: Option<Limit>) -> i32
-    requires { InLimit bound_limit (stated entry) }
+    requires { BoundInLimit entry }
     ensures { bound_in result ≡ bound_of entry }
 {
     i32::of_bound(Number::of(entry))
@@ -389,19 +392,22 @@ pub fn pair_bound<T: Stored>(pattern: &[T], n: usize, i: usize, j: usize) -> Num
     pattern[place(n, i, column)].bound()
 }
 
+// No bound of the pattern names both the clock and departure j.
+fn off_clock(pattern: &[i32], n: usize, j: usize) -> bool
+    requires { PairCell n pattern.now 0 j }
+    ensures { let b = bounds_in pattern.now in result ≡ (is_none (pair_bound n b 0 j) && is_none (pair_bound n b j 0)) }
+{
+    let from = pair_bound(pattern, n, 0, j);
+    let to = pair_bound(pattern, n, j, 0);
+    from.0.is_none() && to.0.is_none()
+}
+
 // No bound of the pattern names the clock.
 pub fn only_differences(pattern: &[i32], n: usize) -> bool
     requires { PatternIn n pattern.now }
     ensures { result ≡ only_differences n (bounds_in pattern.now) }
 {
-    for j in 1..n + 1 {
-        let from = pair_bound(pattern, n, 0, j);
-        let to = pair_bound(pattern, n, j, 0);
-        if from.0.is_some() || to.0.is_some() {
-            return false;
-        }
-    }
-    true
+    (1..n + 1).all(|j| off_clock(pattern, n, j))
 }
 
 // Start or target bounds only differences.
@@ -430,18 +436,81 @@ pub fn changed<X: Copy, Y: Copy, F: Fn(X) -> Y, const SIZE: usize>(
     made
 }
 
-// The first count entries of the table of a case as numbers in memory; those beyond are free.
-pub fn times_in(slots: [Option<Seconds>; BOUNDS], count: usize) -> [i32; BOUNDS]
-    requires { (count ≤ most_bounds) × Every (InLimit bound_limit) (take count slots) }
-    ensures { (times_in (take count result) ≡ map time_of (take count slots)) × (length result ≡ most_bounds) }
+// The entries of the table of a case as numbers in memory, at the front of an array.
+fn times_in(slots: &[Option<Seconds>]) -> [i32; BOUNDS]
+    requires { (length slots.now ≤ most_bounds) × Every (InLimit bound_limit) slots.now }
+    ensures { (times_in (take (length slots.now) result) ≡ map time_of slots.now) × (length result ≡ most_bounds) }
 {
-    changed(&slots[..count], 0, raw_time)
+    changed(slots, 0, raw_time)
 }
 
-// The first size bounds of a pattern of a case, likewise.
-pub fn bounds_in(limits: [Option<Limit>; BOUNDS], size: usize) -> [i32; BOUNDS]
-    requires { (size ≤ most_bounds) × Every (λ e. InLimit bound_limit (stated e)) (take size limits) }
-    ensures { (bounds_in (take size result) ≡ map bound_of (take size limits)) × (length result ≡ most_bounds) }
+// The bounds of a pattern of a case, likewise.
+fn bounds_in(limits: &[Option<Limit>]) -> [i32; BOUNDS]
+    requires { (length limits.now ≤ most_bounds) × Every BoundInLimit limits.now }
+    ensures { (bounds_in (take (length limits.now) result) ≡ map bound_of limits.now) × (length result ≡ most_bounds) }
 {
-    changed(&limits[..size], 0, raw_bound)
+    changed(limits, 0, raw_bound)
+}
+
+// The numbers of a case: its table and its two patterns, each at the front of an array.
+#[derive(Drop)]
+pub struct Loaded {
+    n: usize,
+    times: [i32; BOUNDS],
+    start: [i32; BOUNDS],
+    target: [i32; BOUNDS],
+}
+
+impl Model for Loaded {
+    ghost use Rattle.std.specs.Prelude.{take};
+    ghost use Rattle.model.specs.Sizes.{table_size, pattern_size};
+    ghost use Rattle.model.specs.Conditions.{Departures};
+    ghost use Rattle.memory.specs.Networks.{CaseNumbers};
+
+    ghost Value = { CaseNumbers };
+
+    ghost view = { λ l. record {
+      times = take (table_size l.n) l.times;
+      start = take (pattern_size l.n) l.start;
+      target = take (pattern_size l.n) l.target;
+    } };
+
+    ghost invariant = { λ l. Departures l.n };
+}
+
+impl Loaded {
+    // A case without a fault.
+    #[tactic(auto, using(crate::proofs::Cased::without_fault))]
+    pub fn of(case: Case) -> Loaded
+        requires { case_fault case ≡ none }
+        ensures { CaseIn case result.times result.start result.target }
+    {
+        let n = case.n;
+        let count = table_size(n);
+        let size = pattern_size(n);
+        Loaded {
+            n,
+            times: times_in(&case.times[..count]),
+            start: bounds_in(&case.start[..size]),
+            target: bounds_in(&case.target[..size]),
+        }
+    }
+
+    pub fn times(&self) -> &[i32]
+        ensures { result.now ≡ self.now.times }
+    {
+        &self.times[..table_size(self.n)]
+    }
+
+    pub fn start(&self) -> &[i32]
+        ensures { result.now ≡ self.now.start }
+    {
+        &self.start[..pattern_size(self.n)]
+    }
+
+    pub fn target(&self) -> &[i32]
+        ensures { result.now ≡ self.now.target }
+    {
+        &self.target[..pattern_size(self.n)]
+    }
 }

@@ -79,7 +79,7 @@ pub le_b_antisym : {b c : Bound} → LeB b c → LeB c b → b ≡ c
 le_b_antisym any any = refl
 le_b_antisym (fin h) (fin k) = same_halves (omega ints)
 
--- what it is to keep to a bound
+-- what it is to keep to a bound: that the definition says this is checked here, and nothing else cites it
 pub holds_most : (v b : ℤ) → Holds v (most b) ↔ v ≤ℤ b
 holds_most v b = (λ h. omega bounds, λ h. omega bounds)
 

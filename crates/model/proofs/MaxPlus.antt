@@ -66,11 +66,7 @@ later_upper (secs a) (secs b) = go (le_z a b) refl
 pub later_least : {t u v : Time} → LeT t v → LeT u v → LeT (later t u) v
 later_least {t} {u} {v} h k = later_either (λ x. LeT x v) t u h k
 
--- a blank is the unit; it is commutative and associative
-pub later_blank : (t : Time) → later blank t ≡ t
-unfolding later
-later_blank t = refl
-
+-- it is commutative and associative
 pub later_comm : (t u : Time) → later t u ≡ later u t
 later_comm t u = let (a, b) = later_upper t u in let (c, d) = later_upper u t in le_t_antisym (later_least d c) (later_least b a)
 

@@ -4,7 +4,7 @@ use native.Mathlib.Omega.{arith}
 use native.Mathlib.Nat.{add-mul, mul-le-mul, mul-le-mul_right}
 use mathlib.Core.Path.{◌≡◌, ap}
 use mathlib.Core.List.{List, map}
-use mathlib.Core.Option.{none, some}
+use mathlib.Core.Option.{some}
 use lib.IntN.{pos, nat_abs, ◌-ℤ◌, ◌*ℤ◌}
 use lib.ListN.{take}
 use Rattle.ints.proofs.Integers.{up, dn, ints, sub_ud, pos_ud, abs_ud}
@@ -97,12 +97,6 @@ module _ (w : Network) (limits : Limits w) where
 pub run_whole : (c : Case) (xs : List Seconds) (k : ℕ) → run_in_parts 1 c xs k ≡ run c xs k
 unfolding run_in_parts run
 run_whole c xs k = ap (λ (w : Network). ran (run_fault c xs k) (cycles c.n w.times k (map (λ x. x.0) (take c.n xs)))) (whole_network (network c))
-
--- without a fault it gives the times of the definition
-pub run_accepted : (c : Case) (xs : List Seconds) (k : ℕ) → run_fault c xs k ≡ none →
-    run c xs k ≡ Ok (all_times (cycles c.n (network c).times k (map (λ x. x.0) (take c.n xs))))
-unfolding run
-run_accepted c xs k h = rw (h, run)
 
 module _ (c : Case) (capacity size : ℕ) (limits : InLimits c capacity size) where
   start_small : (k : ℕ) (s : StartTimes) → answer c capacity size ≡ Ok (verdict.Reached (cycle_number k) s) → StartsSmall (take c.n s.times)

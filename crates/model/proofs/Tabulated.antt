@@ -3,7 +3,7 @@
 use Prim.Native.Nat.{ℕ, zero, suc, ◌+◌, ◌-◌, ◌≤◌, ◌<◌}
 use native.Mathlib.Omega.{arith}
 use mathlib.Core.Path.{◌≡◌, refl, ap, ap₂}
-use mathlib.Core.List.{List, [], ◌∷◌, ◌++◌, map, foldl}
+use mathlib.Core.List.{List, [], ◌∷◌, ◌++◌, map}
 use Rattle.model.specs.Lists.{tabulate}
 
 module _ {ℓ} {X : Type ℓ} where
@@ -52,10 +52,3 @@ module _ {ℓ} {X : Type ℓ} (f : ℕ → X) where
     pub from_end : e ≤ j → from f e j ≡ []
     unfolding tabulate
     from_end h = let a : e - j ≡ 0 = omega arith in rw a
-
-    -- what a loop makes of them, one by one
-    pub foldl_next {κ} : {Y : Type κ} (g : Y → X → Y) (y : Y) → j < e → foldl g y (from f e j) ≡ foldl g (g y (f j)) (from f e (j + 1))
-    foldl_next g y h = ap (foldl g y) (from_next h)
-
-    pub foldl_end {κ} : {Y : Type κ} (g : Y → X → Y) (y : Y) → e ≤ j → foldl g y (from f e j) ≡ y
-    foldl_end g y h = ap (foldl g y) (from_end h)

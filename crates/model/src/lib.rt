@@ -33,12 +33,15 @@ pub const TIME_WIDTH: usize = 18;
 
 pub const BOUND_WIDTH: usize = 21;
 
+// The most rows of a zone: one for each departure, and one for the clock.
+pub const ROWS: usize = DEPARTURES + 1;
+
 // The most entries of a table, of a pattern and of a zone.
 pub const TIMES: usize = DEPARTURES * DEPARTURES;
 
-pub const BOUNDS: usize = DEPARTURES * (DEPARTURES + 1);
+pub const BOUNDS: usize = DEPARTURES * ROWS;
 
-pub const NUMBERS: usize = (DEPARTURES + 1) * (DEPARTURES + 1);
+pub const NUMBERS: usize = ROWS * ROWS;
 
 // A form of a packed case: how many zero bits stand in front, and the bits of n and of a bound's mark.
 #[derive(Clone, Copy)]

@@ -1,13 +1,12 @@
 // Lists that are made by moving the clock: a list that is the one before it so moved, and one that is moved in place.
 #![tactic(auto)]
 
-ghost use Rattle.std.specs.Prelude.{◌≡◌, true, map, ◌*◌, ◌≤◌, ◌+ℤ◌, nat_abs, drop};
-ghost use Rattle.model.specs.Sizes.{zone_size};
+ghost use Rattle.std.specs.Prelude.{◌≡◌, true, ◌≤◌, ◌+ℤ◌, length};
+ghost use Rattle.model.specs.Sizes.{most_departures, zone_size};
 ghost use Rattle.model.specs.Bound.{most, plus};
 ghost use Rattle.model.specs.Conditions.{Small};
-ghost use Rattle.memory.specs.Numbers.{bound_in, Limit, InMemory};
-ghost use Rattle.lists.specs.Lists.{list_in};
-ghost use Rattle.moves.specs.Moving.{moved, clock_by, Changing, Change, TwoLists, MovedBy, Movable, MoveList};
+ghost use Rattle.memory.specs.Numbers.{bound_in, Limit};
+ghost use Rattle.moves.specs.Moving.{clock_by, ClockMove, BoundMove, Shiftable, Shifted, Changing, Change, TwoLists, MovedBy, Movable, MoveList};
 
 use ints::{Seconds, ZERO};
 use lists::ZoneList;
@@ -36,7 +35,7 @@ fn change(by: Seconds, n: usize, p: usize) -> Seconds
 
 // A bound in halves, so many seconds larger.
 fn sum(raw: i32, by: Seconds) -> Seconds
-    requires { nat_abs by.0 ≤ 2 * InMemory }
+    requires { BoundMove by.0 }
     ensures { result.0 ≡ (raw +ℤ by.0) +ℤ by.0 }
 {
     Seconds::from(raw) + by + by
@@ -44,7 +43,7 @@ fn sum(raw: i32, by: Seconds) -> Seconds
 
 // A number in memory for a bound that is so much larger.
 fn shifted(raw: i32, by: Seconds) -> i32
-    requires { (nat_abs by.0 ≤ 2 * InMemory) × Small Limit (plus (bound_in raw) (most by.0)) }
+    requires { BoundMove by.0 × Small Limit (plus (bound_in raw) (most by.0)) }
     ensures { bound_in result ≡ plus (bound_in raw) (most by.0) }
 {
     if raw == NONE {
@@ -55,7 +54,7 @@ fn shifted(raw: i32, by: Seconds) -> i32
 
 // The bound b is so much larger than a: true only where it is. Free: whether it is true there.
 fn follows(a: i32, by: Seconds, b: i32) -> bool
-    requires { nat_abs by.0 ≤ 2 * InMemory }
+    requires { BoundMove by.0 }
     ensures { result ≡ true → bound_in b ≡ plus (bound_in a) (most by.0) }
 {
     if a == NONE {
@@ -69,44 +68,42 @@ fn follows(a: i32, by: Seconds, b: i32) -> bool
 
 // Half of what b is more than a. Free: the number, within its size.
 fn half(a: i32, b: i32) -> Seconds
-    ensures { nat_abs result.0 ≤ InMemory }
+    ensures { ClockMove result.0 }
 {
     let more = Seconds::from(b) - Seconds::from(a);
     Seconds(more.0 / 2)
 }
 
-// What the clock is later by in the first zone at goal, told by its first bound against the clock. Free: the number, within its size, since all numbers of
-// the lists are compared by it afterwards.
-fn gap(work: &[i32], source: usize, goal: usize, n: usize) -> Seconds
-    requires { TwoLists n source 1 goal 1 work.now }
-    ensures { nat_abs result.0 ≤ InMemory }
+// What the clock is later by in the second of two zones at the front of these numbers, told by its first bound against the clock. Free: the number, within
+// its size, since all numbers of the lists are compared by it afterwards.
+fn gap(before: &[i32], after: &[i32], n: usize) -> Seconds
+    requires { (n ≤ most_departures) × (zone_size n ≤ length before.now) × (zone_size n ≤ length after.now) }
+    ensures { ClockMove result.0 }
 {
     let m = n + 1;
     for i in 1..m {
-        let early = work[source + i];
+        let early = before[i];
         if early != NONE {
-            return half(early, work[goal + i]);
+            return half(early, after[i]);
         }
-        let late = work[source + i * m];
+        let late = before[i * m];
         if late != NONE {
-            return half(work[goal + i * m], late);
+            return half(after[i * m], late);
         }
     }
     ZERO
 }
 
-// The list at goal is the other one with the clock so much later: true only where it is. Free: whether it is true there.
-fn follow(work: &[i32], source: ZoneList, goal: usize, n: usize, by: Seconds) -> bool
-    requires { TwoLists n source.base source.count goal source.count work.now × (nat_abs by.0 ≤ InMemory) }
-    ensures { result ≡ true → list_in (zone_size n) source.count (drop goal work.now)
-        ≡ map (moved n by.0) (list_in (zone_size n) source.count (drop source.base work.now)) }
+// The second numbers are those of the first zones with the clock so much later: true only where they are. Free: whether it is true there.
+fn follow(before: &[i32], after: &[i32], n: usize, by: Seconds) -> bool
+    requires { Changing n by.0 × (length after.now ≡ length before.now) }
+    ensures { result ≡ true → Shifted n by.0 before.now after.now }
 {
-    let size = source.count * zone_size(n);
-    work[source.base..source.base + size]
+    before
         .iter()
-        .zip(&work[goal..goal + size])
+        .zip(after)
         .enumerate()
-        .all(|(p, (before, after))| follows(*before, change(by, n, p), *after))
+        .all(|(p, (a, b))| follows(*a, change(by, n, p), *b))
 }
 
 // By how much one list is the one before it with the clock moved, if it is.
@@ -117,22 +114,27 @@ pub fn find_move(work: &[i32], before: ZoneList, next: ZoneList, n: usize) -> Op
     if next.count != before.count {
         return None;
     }
-    let by = gap(work, before.base, next.base, n);
-    if follow(work, before, next.base, n, by) {
-        Some(by)
-    } else {
-        None
+    let first = before.numbers(work, n);
+    let second = next.numbers(work, n);
+    let by = gap(first, second, n);
+    follow(first, second, n, by).then_some(by)
+}
+
+// The numbers of a list of zones, with the clock of each moved.
+fn move_numbers(numbers: &mut [i32], n: usize, by: Seconds)
+    requires { Shiftable n by.0 numbers.old }
+    ensures { Shifted n by.0 numbers.old numbers.new }
+{
+    for (p, number) in numbers.iter_mut().enumerate() {
+        *number = shifted(*number, change(by, n, p));
     }
 }
 
-// Moves the clock of each zone of the list, in place; by index, since after iter_mut of a part no proof knows what the rest of it holds.
+// Moves the clock of each zone of the list, in place.
 pub fn move_list(work: &mut [i32], list: ZoneList, n: usize, by: Seconds)
     requires { Movable n list.base list.count by.0 work.old }
     ensures { MoveList n list.base list.count by.0 work.old work.new }
 {
     let size = list.count * zone_size(n);
-    for p in 0..size {
-        let at = list.base + p;
-        work[at] = shifted(work[at], change(by, n, p));
-    }
+    move_numbers(&mut work[list.base..list.base + size], n, by);
 }

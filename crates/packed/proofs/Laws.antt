@@ -207,31 +207,33 @@ module _ (n i : ℕ) {a b : Cursor} (times : List (Entry Seconds)) (h : i < n) (
       stop_on (row_of n) (λ s p. rows s n n p []) front one (λ s p x y.
       ap (λ (k : ℕ). rows s n k p []) (sym left) ∙ rows_split s n i (suc (n - (i + 1))) p [] ∙ simp (x, rows_one s n (n - (i + 1)), y))
 
--- ---- the filling: zero bits from p up to end, of which those before q were read
+-- ---- the filling: zero bits from p up to end
 zeros_turn : (s : List ℕ) (end p : ℕ) → p < end
     → zeros s (end - p) p ≡ cond (eqb (bit_at s p) 0) (zeros s (end - (p + 1)) (p + 1)) (refused (fault.FillBit p))
 unfolding zeros
 zeros_turn s end p h = let left : end - p ≡ suc (end - (p + 1)) = omega arith in rw left
 
--- one more bit is 0
-pub zeros_more : (s : List ℕ) (end q b : ℕ) → q < end → b ≡ bit_at s q → b ≡ 0 → zeros s (end - q) q ≡ zeros s (end - (q + 1)) (q + 1)
-zeros_more s end q b h is e = zeros_turn s end q h ∙ simp (eq-eqb _ 0 (sym is ∙ e))
+-- those before q are 0
+zeros_up : (s : List ℕ) (end q d p : ℕ) → d + p ≡ q → q ≤ end → ((k : ℕ) → p ≤ k → k < q → bit_at s k ≡ 0) → zeros s (end - p) p ≡ zeros s (end - q) q
+zeros_up s end q zero p is h clean = let e : p ≡ q = omega arith in rw e refl
+zeros_up s end q (suc d) p is h clean =
+    zeros_turn s end p (omega arith)
+    ∙ simp (eq-eqb _ 0 (clean p (omega arith) (omega arith))) (zeros_up s end q d (p + 1) (omega arith) h (λ k a b. clean k (omega arith) b))
 
-module _ (s : List ℕ) (p end q : ℕ) (e : end ≡ next_multiple_of p 8) (read : zeros s (end - p) p ≡ zeros s (end - q) q) where
+module _ (s : List ℕ) (p end q : ℕ) (e : end ≡ next_multiple_of p 8) (from : p ≤ q) (near : q ≤ end)
+    (clean : (k : ℕ) → p ≤ k → k < q → bit_at s k ≡ 0) where
+  read : zeros s ((8 - p % 8) % 8) p ≡ zeros s (end - q) q
+  read = let k : (8 - p % 8) % 8 ≡ end - p = omega arith in rw k (zeros_up s end q (q - p) p (omega arith) near clean)
+
   -- a bit is not 0
-  pub filling_stops : (b : ℕ) → q < end → b ≡ bit_at s q → (b ≡ 0 → ⊥) → fill s p ≡ refused (fault.FillBit q)
+  pub filling_stops : q < end → (bit_at s q ≡ 0 → ⊥) → fill s p ≡ refused (fault.FillBit q)
   unfolding fill
-  filling_stops b h is ne =
-      let k : (8 - p % 8) % 8 ≡ end - p = omega arith in
-      rw k (simp (read ∙ zeros_turn s end q h, ne_eqb _ 0 (λ z. ne (is ∙ z))))
+  filling_stops h ne = simp (read ∙ zeros_turn s end q h, ne_eqb _ 0 ne)
 
   -- all are 0
   pub filling_ends : end ≡ q → fill s p ≡ cond (eqb end (8 * length s)) (got 0 end) (refused (fault.ExtraByte end))
   unfolding fill zeros
-  filling_ends h =
-      let k : (8 - p % 8) % 8 ≡ end - p = omega arith in
-      let none_left : end - q ≡ 0 = omega arith in
-      rw (k, read, none_left, h)
+  filling_ends h = let none_left : end - q ≡ 0 = omega arith in rw (read, none_left, h)
 
 -- ---- the case
 -- entries in the front of an array of blanks

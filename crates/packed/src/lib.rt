@@ -173,7 +173,7 @@ impl Cursor<'_> {
         Ok(next)
     }
 
-    // The table: n rows of n times.
+    // The table: n rows of n times, by index: of what mutable chunks leave in their slice, proofs know nothing.
     #[tactic(auto, using(crate::proofs::Laws::rows_none))]
     fn table(mut self, n: usize, times: &mut [Option<Seconds>]) -> Result<Self, Fault>
         requires { (self.at + most_times * (1 + time_width) ≤ most_bits) × Departures n × (length times.old ≡ n * n) }
@@ -186,16 +186,13 @@ impl Cursor<'_> {
     }
 
     // Zero bits up to a whole byte, and no byte more.
-    #[tactic(auto, using(crate::proofs::Laws::zeros_more))]
     fn padding(self) -> Result<(), Fault>
         requires { self.at ≤ most_bits }
         ensures { result_and result (Ok 0) ≡ outcome_of (fill self.entry.bytes.now self.entry.at) }
     {
         let end = self.at.next_multiple_of(8);
-        for place in self.at..end {
-            if self.bit(place) != 0 {
-                return Err(Fault::FillBit(place));
-            }
+        if let Some(place) = (self.at..end).find(|place| self.bit(*place) != 0) {
+            return Err(Fault::FillBit(place));
         }
         if end / 8 < self.bytes.len() {
             return Err(Fault::ExtraByte(end));
@@ -246,7 +243,7 @@ fn read_as(bytes: &[u8], form: Form) -> Result<Case, Fault>
     cursor.body(n as usize, Cycle(more as usize + 1))
 }
 
-// A case in document 01's form.
+// A case in document 01's form. One function for any form would have to ask that the form is no longer than the wide one; C and the documents name the two.
 pub fn read_old(bytes: &[u8]) -> Result<Case, Fault>
     ensures { result ≡ outcome_of (parse_as old bytes.now) }
 {

@@ -3,14 +3,16 @@ use Prim.Native.Nat.{ℕ, zero, suc, ◌+◌, ◌-◌, ◌*◌, ◌/◌, ◌%◌
 use native.Mathlib.Omega.{arith}
 use native.Mathlib.Nat.{zero-add, zero-div, mod-lt}
 use native.Mathlib.Numerals.{add-one}
-use mathlib.Core.Path.{◌≡◌, refl, sym, ap, ap₂, ◌∙◌}
+use mathlib.Core.Path.{◌≡◌, refl, sym, ap, ap₂, subst, ◌∙◌}
 use mathlib.Core.List.{List, [], ◌∷◌, ◌++◌, append_assoc, append-nil}
 use lib.ListN.{length, get_or, drop, set, length-append, length-drop, length-set}
 use lib.Seq.{drop-cons, set_at, append_snoc}
 use lib.Arith.{digits_lt}
 use lib.Pow.{pow-add, pow_mono, pow_pos, shl_exact, shr_lt, high, low}
 use Rattle.model.specs.Sizes.{most_width}
+use Rattle.model.specs.declared.Form.{Form}
 use Rattle.model.specs.Lists.{tabulate, done}
+use Rattle.model.specs.Conditions.{FormLimits}
 use Rattle.model.specs.Packed.{num_of}
 use Rattle.model.specs.Writing.{field_bits, bytes_of}
 use Rattle.model.proofs.Entries.{length_tabulate}
@@ -25,10 +27,11 @@ use Rattle.packer.proofs.Spelling.{num_add, field_bits_lem, num_front, num_field
 
 -- ---- nothing, and one thing behind another
 pub extends_nothing : {pen : Pen} → pen.part < 2 ^ pen.held → Extends [] pen pen
-extends_nothing h = record { small = h; place = omega arith; same = refl; kept = refl; inked = λ first before i. rw append-nil i }
+extends_nothing h = record { form_kept = refl; small = h; place = omega arith; same = refl; kept = refl; inked = λ first before i. rw append-nil i }
 
 pub extends_then : {a b : List ℕ} {pen next last : Pen} → Extends a pen next → Extends b next last → Extends (a ++ b) pen last
 extends_then {a} {b} p q = record {
+  form_kept = q.form_kept ∙ p.form_kept;
   small = q.small;
   place = omega (arith, length-append a b);
   same = q.same ∙ p.same;
@@ -36,8 +39,16 @@ extends_then {a} {b} p q = record {
   inked = λ first before i. rw append_assoc at (q.inked first (before ++ a) (p.inked first before i));
 }
 
+-- a thing of no bits
+pub extends_on : {a : List ℕ} {pen next last : Pen} → Extends a pen next → Extends [] next last → Extends a pen last
+extends_on p q = rw append-nil at (extends_then p q)
+
 pub inks_then : {a b : List ℕ} {pen next last : Pen} → Inks a pen next → Inks b next last → Inks (a ++ b) pen last
 inks_then p q = (extends_then p.0 q.0, q.1)
+
+-- where the second goes by the form
+pub inks_in : {a : List ℕ} (b : Form → List ℕ) {pen next last : Pen} → Inks a pen next → Inks (b next.form) next last → Inks (a ++ b pen.form) pen last
+inks_in b {next = next} {last} p q = inks_then p (subst (λ (f : Form). Inks (b f) next last) p.0.form_kept q)
 
 -- ---- the first pen
 pub inked_first : (pen : Pen) → pen.full ≡ 0 → pen.held ≡ 0 → pen.part ≡ 0 → Inked pen.out.now [] pen
@@ -45,16 +56,17 @@ unfolding num_of tabulate
 inked_first pen f h p = record { bits = done; long = omega arith; spells = rw (p, h); stored = rw f }
 
 -- ---- a field taken up: its bits are held behind those that were
-abbrev pub taken : Pen → ℕ → ℕ → Pen
-taken pen w v = record pen { held = pen.held + w; part = pen.part * 2 ^ w + v }
+abbrev pub taken : (pen : Pen) → FormLimits pen.form → ℕ → ℕ → Pen
+taken pen few w v = record pen { held = pen.held + w; part = pen.part * 2 ^ w + v; form_few = few }
 
 module _ (pen : Pen) (w v : ℕ) (can : CanInk w pen) (few : w ≤ most_width) (h : v < 2 ^ w) where
   -- the held bits make room for it, and none is lost
   pub moved : pen.part * 2 ^ w % 2 ^ 32 ≡ pen.part * 2 ^ w
   moved = shl_exact pen.held w 32 can.small (omega (arith, can.few))
 
-  pub extends_field : Extends (field_bits w v) pen (taken pen w v)
+  pub extends_field : {form_few : FormLimits pen.form} → Extends (field_bits w v) pen (taken pen form_few w v)
   extends_field = record {
+    form_kept = refl;
     small = rw (pow-add 2 pen.held w) (digits_lt can.small h);
     place = omega (arith, length_field w v);
     same = refl;
@@ -79,7 +91,7 @@ module _ (pen : Pen) (w v : ℕ) (can : CanInk w pen) (few : w ≤ most_width) (
   pub taken_fits : pen.part * 2 ^ w % 2 ^ 32 + v < 2 ^ 32
   taken_fits =
       let m : 2 ^ (pen.held + w) ≤ 2 ^ 31 = pow_mono {j = 31} (omega (arith, can.few)) in
-      rw moved (omega (arith, extends_field.small))
+      rw moved (omega (arith, (extends_field {form_few = pen.form_few}).small))
 
 -- ---- a byte stored: of eight bits and r more the first eight
 -- one more of the numbers f 0, f 1, .. in front of a list
@@ -89,17 +101,20 @@ stored_next f n xs h =
     (set_at (tabulate n 0 f) (get_or xs n 0) (drop (suc n) xs) (f n) n (length_tabulate n 0 f)
     ∙ sym (append_snoc (tabulate n 0 f) (f n) (drop (suc n) xs)))
 
-abbrev pub rest : Pen → ℕ → Pen
-rest pen r = record {
+abbrev pub rest : (pen : Pen) → FormLimits pen.form → ℕ → Pen
+rest pen few r = record {
+  form = pen.form;
   out = record pen.out { now = set pen.out.now pen.full (pen.part / 2 ^ r) };
   full = pen.full + 1;
   held = r;
   part = pen.part % 2 ^ r;
+  form_few = few;
 }
 
 module _ (pen : Pen) (r : ℕ) (e : pen.held ≡ 8 + r) (room : pen.full < length pen.out.now) where
-  pub extends_byte : Extends [] pen (rest pen r)
+  pub extends_byte : {form_few : FormLimits pen.form} → Extends [] pen (rest pen form_few r)
   extends_byte = record {
+    form_kept = refl;
     small = mod-lt pen.part (pow_pos r);
     place = omega arith;
     same = refl;

@@ -11,12 +11,13 @@ use lib.Signed.{lt_z}
 use mir.Val.{bool_byte}
 use lib.ListN.{length, get_or, take, drop, length-append, take-append-drop}
 use lib.Seq.{take-suc}
-use Rattle.std.specs.Prelude.{Option, Some, None, is_some}
+use Rattle.std.specs.Prelude.{Option, Some, None, is_some, count_by}
+use Rattle.std.proofs.lemmas.List.Sums.{sum_by-cons}
 use Rattle.ints.specs.declared.Seconds.{Seconds}
 use Rattle.model.specs.declared.Limit.{Limit}
 use Rattle.model.specs.declared.Form.{Form}
 use Rattle.model.specs.declared.Fault.TheVariants as fault
-use Rattle.model.specs.Sizes.{time_limit, time_width, bound_width}
+use Rattle.model.specs.Sizes.{most_width, time_limit, time_width, bound_width}
 use Rattle.model.specs.Lists.{tabulate, Every, done, both}
 use Rattle.model.specs.Packed.{raw_of, Kind, time_kind, bound_kind}
 use Rattle.model.specs.Writing.{field_bits, entry_bits, entries_bits}
@@ -25,7 +26,7 @@ use Rattle.model.proofs.Inverse.{bits_append}
 use Rattle.model.proofs.Limits.{over_none, bound_fault_in_none}
 use Rattle.model.proofs.Spelled.{length_field}
 use Rattle.packer.proofs.Inking.{extends_nothing}
-use Rattle.packer.specs.Ink.{Placed, Spells}
+use Rattle.packer.specs.Sound.{Placed, Spells}
 
 -- ---- two's complement by the test
 pub raw_below : (half : ℕ) (z : ℤ) → lt_z z (pos 0) ≡ true → raw_of half z ≡ half * 2 - nat_abs z
@@ -75,6 +76,16 @@ module _ {A : Type 0} (k : Kind (Option A)) (has : (e : Option A) → k.has e �
   pub absent_length : length (entry_bits k None) ≡ 1
   absent_length = rw entry_absent (length_field 1 0)
 
+  -- how long entries are of which r are there
+  pub entries_length : (es : List (Option A)) {r w : ℕ} → r ≡ count_by is_some es → w ≡ k.width → w ≤ most_width
+      → (length (entries_bits k es) ≡ length es + r * w) × (r * w ≤ length es * most_width)
+  unfolding entries_bits flat_map
+  entries_length [] h e l = rw h (omega arith)
+  entries_length (None ∷ es) h e l = rw h (omega (arith, length-append (entry_bits k None) (entries_bits k es), absent_length, entries_length es refl e l))
+  entries_length (Some x ∷ es) h e l =
+      let one = sum_by-cons (λ y. cond (is_some y) 1 0) (Some x) es in
+      rw (h, one) (omega (arith, length-append (entry_bits k (Some x)) (entries_bits k es), present_length x, entries_length es refl e l))
+
 -- what the proofs of one entry use
 pub ruleset entry_parts = (entry_absent, present_length, absent_length, length_field)
 
@@ -93,14 +104,11 @@ module _ {A : Type 0} (k : Kind A) (es : List A) (i : ℕ) (x : A) (inside : i <
       rw (add-one, take-suc es i x inside, ← e, bits_append k (take i es) (x ∷ []))
       (ap (λ (bs : List ℕ). entries_bits k (take i es) ++ bs) (append-nil (entry_bits k x)))
 
-  pub next_length : length (entries_bits k (take (i + 1) es)) ≡ length (entries_bits k (take i es)) + length (entry_bits k x)
-  next_length = rw entries_next (length-append (entries_bits k (take i es)) (entry_bits k x))
-
   -- the bits of the first i and of the next one are no more than those of all
   pub entries_room : length (entries_bits k (take i es)) + length (entry_bits k x) ≤ length (entries_bits k es)
   entries_room =
       let all = bits_append k (take (i + 1) es) (drop (i + 1) es) in
-      omega (arith, next_length, simp (length-append, take-append-drop) at (ap length all))
+      omega (arith, simp length-append at (ap length entries_next), simp (length-append, take-append-drop) at (ap length all))
 
 -- none
 pub entries_none : {A : Type 0} (k : Kind A) → entries_bits k [] ≡ []
@@ -108,4 +116,4 @@ unfolding entries_bits flat_map
 entries_none k = refl
 
 -- what the proofs of entries use
-pub ruleset entries_parts = (entries_none, next_length, entries_room, every_item, extends_nothing)
+pub ruleset entries_parts = (entries_none, entries_room, every_item, extends_nothing)

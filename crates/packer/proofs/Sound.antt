@@ -27,7 +27,7 @@ use Rattle.model.proofs.Places.{table_fits, pattern_fits}
 use Rattle.model.proofs.Spelled.{length_field}
 use Rattle.model.proofs.Outcomes.{judged_err, judged_ok, judgements}
 use Rattle.judge.proofs.Laws.{case_departures, known_departures}
-use Rattle.packer.specs.Ink.{Sound}
+use Rattle.packer.specs.Sound.{Sound}
 
 -- the bits of the fields in front
 pub length_head : (f : Form) (n h : ℕ) → length (head_bits f n h) ≡ f.lead + f.digits + horizon_width

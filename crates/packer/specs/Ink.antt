@@ -1,15 +1,10 @@
 -- How a pen holds the bits that were written, and what its functions ask for and give.
-use Rattle.std.specs.Prelude.{Option, Some, ◌≡◌, ℕ, ◌+◌, ◌*◌, ◌^◌, ◌≤◌, ◌<◌, List, ◌++◌, length, get_or, take, drop}
-use Rattle.std.proofs.Math.Option.{none}
-use Rattle.model.specs.declared.Case.{Case}
-use Rattle.model.specs.declared.Form.{Form}
-use Rattle.model.specs.Sizes.{most_cycles}
-use Rattle.model.specs.Forms.{most_in}
+use Rattle.std.specs.Prelude.{◌≡◌, ℕ, ◌+◌, ◌*◌, ◌^◌, ◌≤◌, ◌<◌, List, ◌++◌, length, get_or, drop}
 use Rattle.model.specs.Lists.{tabulate, Every}
-use Rattle.model.specs.Packed.{num_of, Kind, time_kind, bound_kind}
+use Rattle.model.specs.Packed.{num_of}
 use Rattle.model.specs.Writing.{bytes_of}
-use Rattle.model.specs.Conditions.{Departures, FormLimits}
 use Rattle.packer.specs.declared.Pen.{Pen}
+use Rattle.packer.specs.Sound.{InFront}
 
 -- ---- bits in bytes
 -- bit q, 0 behind the last one
@@ -35,8 +30,9 @@ pub record CanInk (count : ℕ) (pen : Pen) : Type 0 where
   pub small : pen.part < 2 ^ pen.held
   pub room : 8 * pen.full + pen.held + count ≤ 8 * length pen.out.now
 
--- from one pen to the next, bs is written behind what was, in the same output
+-- from one pen to the next, bs is written behind what was, in the same output and form
 pub record Extends (bs : List ℕ) (pen next : Pen) : Type 0 where
+  pub form_kept : next.form ≡ pen.form
   pub small : next.part < 2 ^ next.held
   pub place : 8 * next.full + next.held ≡ 8 * pen.full + pen.held + length bs
   pub same : next.out.ghost_name ≡ pen.out.ghost_name
@@ -47,42 +43,7 @@ pub record Extends (bs : List ℕ) (pen next : Pen) : Type 0 where
 abbrev pub Inks : List ℕ → Pen → Pen → Type 0
 Inks bs pen next = Extends bs pen next × (next.held < 8)
 
--- the bytes, and what stood in the output behind them
-abbrev pub InFront : List ℕ → List ℕ → List ℕ → Type 0
-InFront bytes out after = after ≡ bytes ++ drop (length bytes) out
-
 -- the output holds the bytes of the bits that were written
 pub record Filled (pen next : Pen) : Type 0 where
   pub same : next.out.ghost_name ≡ pen.out.ghost_name
   pub bytes : (first bs : List ℕ) → Inked first bs pen → InFront (bytes_of bs) first next.out.now
-
--- ---- entries
--- an entry of this kind has no fault
-abbrev pub Faultless : {A : Type 0} → Kind A → A → Type 0
-Faultless k e = (p : ℕ) → k.judge p e ≡ none
-
--- one that is present has no fault in a form, and so has a place there
-pub record Placed {A : Type 0} (kind : Form → Kind (Option A)) (x : A) (f : Form) : Type 0 where
-  pub limits : FormLimits f
-  pub faultless : Faultless (kind f) (Some x)
-
--- its number
-pub record Spells {A : Type 0} (kind : Form → Kind (Option A)) (x : A) (f : Form) (r : ℕ) : Type 0 where
-  pub is : r ≡ (kind f).raw (Some x)
-  pub small : r < 2 ^ (kind f).width
-
--- ---- a case
--- n and h have their fields
-pub record NumbersIn (f : Form) (n h : ℕ) : Type 0 where
-  pub place : n ≤ most_in f
-  pub some_cycles : 0 < h
-  pub few_cycles : h ≤ most_cycles
-
--- it keeps to its limits and to those of the form
-pub record Sound (f : Form) (c : Case) : Type 0 where
-  pub limits : FormLimits f
-  pub departures : Departures c.n
-  pub numbers : NumbersIn f c.n c.horizon.0
-  pub times : Every (Faultless time_kind) (take (c.n * c.n) c.times)
-  pub start : Every (Faultless (bound_kind f)) (take (c.n * (c.n + 1)) c.start)
-  pub target : Every (Faultless (bound_kind f)) (take (c.n * (c.n + 1)) c.target)

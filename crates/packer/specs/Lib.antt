@@ -1,2 +1,3 @@
--- How a pen and the output hold the bits that were written.
+-- How a pen and the output hold the bits that were written, and what a case without a fault keeps to.
+pub mod Sound
 pub mod Ink

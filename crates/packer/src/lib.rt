@@ -9,7 +9,7 @@ ghost use Rattle.model.specs.Lists.{Every};
 ghost use Rattle.model.specs.Conditions.{Departures, FormLimits};
 ghost use Rattle.model.specs.Packed.{raw_of};
 ghost use Rattle.model.specs.Writing.{field_bits, head_bits, entry_bits, entries_bits, case_bits, packed_as, WriteGiven};
-ghost use Rattle.packer.specs.Ink.{CanInk, Inks, Filled, InFront, Faultless, Placed, Spells, NumbersIn, Sound};
+ghost use Rattle.packer.specs.Sound.{InFront, Faultless, Placed, Spells, NumbersIn, Sound};
 
 use ints::{Cycle, Seconds};
 use model::{BOUND_WIDTH, Case, Entry, Fault, Form, HORIZON_WIDTH, Limit, OLD, TIME_WIDTH, WIDE};
@@ -44,23 +44,27 @@ fn raw(value: Seconds, half: u32) -> u32
 {
     let seconds = value.0;
     if seconds < 0 {
-        half * 2 - (-seconds) as u32
+        half * 2 - seconds.unsigned_abs() as u32
     } else {
         seconds as u32
     }
 }
 
-// How far the writing got: the output, how many of its bytes are full, how many bits are held for the next one, and the number that these spell.
+// How far the writing in a form got: the output, how many of its bytes are full, how many bits are held for the next one, and the number that these spell.
 #[derive(Drop)]
 struct Pen<'a> {
+    form: Form,
     out: &'a mut [u8],
     full: usize,
     held: usize,
     part: u32,
+    ghost form_few: { FormLimits form },
 }
 
 impl Pen<'_> {
-    // The bits of a number. Each byte that is full is stored: a while loop, as it takes eight of the bits held, which no iterator counts.
+    ghost use Rattle.packer.specs.Ink.{CanInk, Inks, Filled};
+
+    // The bits of a number. Each byte that is full is stored, which takes eight of the bits held.
     #[tactic(auto, using(crate::proofs::Inking::fields))]
     fn bits(&mut self, width: usize, value: u32)
         requires { CanInk width self.old × (width ≤ most_width) × (value < 2 ^ width) }
@@ -68,7 +72,7 @@ impl Pen<'_> {
     {
         self.part = (self.part << width) + value;
         self.held += width;
-        while 8 <= self.held {
+        for _ in 0..self.held / 8 {
             self.held -= 8;
             self.out[self.full] = (self.part >> self.held) as u8;
             self.part %= 1 << self.held;
@@ -78,38 +82,38 @@ impl Pen<'_> {
 
     // An entry: a presence bit, then its number if that is 1.
     #[tactic(auto, using(crate::proofs::Parts::entry_parts))]
-    fn entry<E: Writable>(&mut self, entry: Option<E>, form: Form)
-        requires { CanInk (length (entry_bits (E.kind form) entry)) self.old × FormLimits form × Faultless (E.kind form) entry }
-        ensures { Inks (entry_bits (E.kind form) entry) self.old self.new }
+    fn entry<E: Writable>(&mut self, entry: Option<E>)
+        requires { CanInk (length (entry_bits (E.kind self.old.form) entry)) self.old × Faultless (E.kind self.old.form) entry }
+        ensures { Inks (entry_bits (E.kind self.old.form) entry) self.old self.new }
     {
         match entry {
             None => self.bits(1, 0),
             Some(entry) => {
                 self.bits(1, 1);
-                self.bits(E::width(form), entry.number());
+                self.bits(E::width(self.form), entry.number());
             }
         }
     }
 
     // One entry after the other.
     #[tactic(auto, using(crate::proofs::Parts::entries_parts))]
-    fn entries<E: Writable>(&mut self, entries: &[Option<E>], form: Form)
-        requires { CanInk (length (entries_bits (E.kind form) entries.now)) self.old × FormLimits form × Every (Faultless (E.kind form)) entries.now }
-        ensures { Inks (entries_bits (E.kind form) entries.now) self.old self.new }
+    fn entries<E: Writable>(&mut self, entries: &[Option<E>])
+        requires { CanInk (length (entries_bits (E.kind self.old.form) entries.now)) self.old × Every (Faultless (E.kind self.old.form)) entries.now }
+        ensures { Inks (entries_bits (E.kind self.old.form) entries.now) self.old self.new }
     {
         for entry in entries {
-            self.entry(*entry, form);
+            self.entry(*entry);
         }
     }
 
     // The numbers in front.
     #[tactic(auto, using(crate::proofs::Sound::head_lengths))]
-    fn head(&mut self, n: usize, horizon: Cycle, form: Form)
-        requires { CanInk (length (head_bits form n horizon.0)) self.old × FormLimits form × NumbersIn form n horizon.0 }
-        ensures { Inks (head_bits form n horizon.0) self.old self.new }
+    fn head(&mut self, n: usize, horizon: Cycle)
+        requires { CanInk (length (head_bits self.old.form n horizon.0)) self.old × NumbersIn self.old.form n horizon.0 }
+        ensures { Inks (head_bits self.old.form n horizon.0) self.old self.new }
     {
-        self.bits(form.lead, 0);
-        self.bits(form.digits, n as u32);
+        self.bits(self.form.lead, 0);
+        self.bits(self.form.digits, n as u32);
         self.bits(HORIZON_WIDTH, (horizon.0 - 1) as u32);
     }
 
@@ -129,26 +133,19 @@ pub fn entry_length<E: Entry>(entry: Option<E>, form: Form) -> usize
     requires { FormLimits form }
     ensures { (result ≡ length (entry_bits (E.kind form) entry)) × (result ≤ 1 + most_width) }
 {
-    match entry {
-        None => 1,
-        Some(_) => 1 + E::width(form),
-    }
+    1 + entry.map_or(0, |_| E::width(form))
 }
 
-// The bits that entries take.
-#[tactic(auto, using(crate::proofs::Parts::entries_parts))]
+// The bits that entries take: a presence bit for each, and a number's bits for each that is there.
+#[tactic(auto, using(crate::proofs::Parts::entries_length))]
 pub fn entries_length<E: Entry>(entries: &[Option<E>], form: Form) -> usize
     requires { FormLimits form × (length entries.now ≤ most_bounds) }
     ensures { (result ≡ length (entries_bits (E.kind form) entries.now)) × (result ≤ (1 + most_width) * length entries.now) }
 {
-    let mut total = 0;
-    for entry in entries {
-        total += entry_length(*entry, form);
-    }
-    total
+    entries.len() + entries.iter().filter(|entry| entry.is_some()).count() * E::width(form)
 }
 
-// The bits of a case.
+// The bits of a case. It asks for the form's limits, as there is no pen before the length is known.
 #[tactic(auto, using(crate::proofs::Sound::case_lengths))]
 fn case_length(case: &Case, form: Form) -> usize
     requires { Departures case.now.n × FormLimits form }
@@ -176,15 +173,16 @@ fn put_case(case: &Case, form: Form, out: &mut [u8])
     let start = &case.start[..size];
     let target = &case.target[..size];
     let mut pen = Pen {
+        form,
         out,
         full: 0,
         held: 0,
         part: 0,
     };
-    pen.head(n, case.horizon, form);
-    pen.entries(&case.times[..n * n], form);
-    pen.entries(start, form);
-    pen.entries(target, form);
+    pen.head(n, case.horizon);
+    pen.entries(&case.times[..n * n]);
+    pen.entries(start);
+    pen.entries(target);
     pen.fill();
 }
 
@@ -203,7 +201,7 @@ fn write_as(case: Case, form: Form, out: &mut [u8]) -> Result<usize, Fault>
     Ok(needed)
 }
 
-// In document 01's form.
+// In document 01's form. One function for any form would have to ask that the form is no longer than the wide one; C and the documents name the two.
 pub fn write(case: Case, out: &mut [u8]) -> Result<usize, Fault>
     ensures { WriteGiven old case out.old result out.new }
 {

@@ -1,26 +1,24 @@
-// A text of bytes, put together in a buffer of a fixed size: bytes, words and numbers.
+// A text of bytes, put together in a buffer of any size: bytes, words and numbers.
 #![tactic(auto)]
 
 ghost use Rattle.std.specs.Prelude.{◌≡◌, [], ◌∷◌, ◌++◌, ◌+◌, ◌≤◌, ◌<◌, length};
-ghost use Rattle.puts.specs.declared.TheConstants.{SIZE};
 ghost use Rattle.puts.specs.Decimal.{number, signed_number, most_digits, most_signed, SignedRoom};
 
 use ints::Seconds;
 use std::marker::Model;
 
-// Room for the longest text of an answer.
-pub const SIZE: usize = 24576;
+// The most digits of a number.
+const DIGITS: usize = 20;
 
 // The bytes so far.
 #[derive(Drop)]
-pub struct Text {
+pub struct Text<const SIZE: usize> {
     bytes: [u8; SIZE],
     size: usize,
 }
 
-impl Model for Text {
+impl<const SIZE: usize> Model for Text<SIZE> {
     ghost use Rattle.std.specs.Prelude.{ℕ, List, take, ◌≤◌};
-    ghost use Rattle.puts.specs.declared.TheConstants.{SIZE};
 
     ghost Value = { List ℕ };
 
@@ -29,7 +27,23 @@ impl Model for Text {
     ghost invariant = { λ t. t.size ≤ SIZE };
 }
 
-impl Text {
+// The decimal digits of a number. The library's write! promises what it wrote only where it answers Ok, and does not promise that it does.
+#[tactic(auto, using(crate::proofs::Digits::one_digit, crate::proofs::Digits::more_digits))]
+fn in_decimal(x: u64) -> Text<DIGITS>
+    ensures { result ≡ number x }
+{
+    let digit = b'0' + (x % 10) as u8;
+    if x < 10 {
+        let mut text = Text::new();
+        text.push(digit);
+        return text;
+    }
+    let mut text = in_decimal(x / 10);
+    text.push(digit);
+    text
+}
+
+impl<const SIZE: usize> Text<SIZE> {
     pub fn new() -> Self
         ensures { result ≡ [] }
     {
@@ -64,19 +78,14 @@ impl Text {
         self.size = end;
     }
 
-    // The decimal digits of a number. The library's write! promises what it wrote only where it answers Ok, and does not promise that it does.
-    #[tactic(auto, using(crate::proofs::Digits::one_digit, crate::proofs::Digits::one_longer, crate::proofs::Digits::number_short))]
+    // The decimal digits of a number.
+    #[tactic(auto, using(crate::proofs::Digits::number_short))]
     pub fn push_number(&mut self, x: u64)
         requires { length self.old + length (number x) ≤ SIZE }
         ensures text { self.new ≡ self.old ++ number x }
         ensures short { length (number x) ≤ most_digits }
     {
-        let digit = b'0' + (x % 10) as u8;
-        if x < 10 {
-            return self.push(digit);
-        }
-        self.push_number(x / 10);
-        self.push(digit);
+        self.push_all(in_decimal(x).as_bytes());
     }
 
     // A minus sign where the time is below 0, and its digits.

@@ -15,6 +15,9 @@ use puts::Text;
 // The most bytes of an input that are read: one more than the longest case has, so that a byte behind it is seen.
 pub const INPUT: usize = BYTES + 1;
 
+// Room for the longest text of an answer.
+pub const SIZE: usize = 24576;
+
 // The program's Z for more than a few departures, and for few; the numbers of a workspace for either.
 const CAPACITY: usize = 32;
 
@@ -22,7 +25,7 @@ const CAPACITY_FEW: usize = 128;
 
 const WORKSPACE: usize = 2 * CAPACITY * NUMBERS;
 
-fn push_fields(text: &mut Text, times: &[Seconds])
+fn push_fields(text: &mut Text<SIZE>, times: &[Seconds])
     requires { length text.old + field_size * length times.now ≤ text_size }
     ensures text { text.new ≡ text.old ++ fields times.now }
     ensures short { length (fields times.now) ≤ field_size * length times.now }
@@ -34,7 +37,7 @@ fn push_fields(text: &mut Text, times: &[Seconds])
 }
 
 #[tactic(auto, using(puts::proofs::Digits::number_short), unfolding(crate::specs::Text::line))]
-fn push_line(text: &mut Text, cycle: usize, times: &[Seconds])
+fn push_line(text: &mut Text<SIZE>, cycle: usize, times: &[Seconds])
     requires few { length times.now ≤ most_departures }
     requires room { length text.old + line_size ≤ text_size }
     ensures text { text.new ≡ text.old ++ line cycle times.now }
@@ -46,7 +49,7 @@ fn push_line(text: &mut Text, cycle: usize, times: &[Seconds])
 }
 
 // The lines of a verdict that is reached: those of cycle 0 to that cycle.
-fn push_lines(text: &mut Text, case: Case, cycle: Cycle, start: StartTimes)
+fn push_lines(text: &mut Text<SIZE>, case: Case, cycle: Cycle, start: StartTimes)
     requires few { FewLines case cycle.0 start }
     requires room { length text.old ≤ suc heading_size }
     ensures text { text.new ≡ text.old ++ lines start.parts case start.times (suc cycle.0) }
@@ -63,7 +66,7 @@ fn push_lines(text: &mut Text, case: Case, cycle: Cycle, start: StartTimes)
 
 // A word and the number behind it.
 #[tactic(auto, using(puts::proofs::Digits::number_short))]
-fn push_numbered(text: &mut Text, word: &[u8], x: u64)
+fn push_numbered(text: &mut Text<SIZE>, word: &[u8], x: u64)
     requires few { length word.now ≤ word_size }
     requires room { length text.old + numbered_size ≤ text_size }
     ensures text { text.new ≡ text.old ++ numbered word.now x }
@@ -75,7 +78,7 @@ fn push_numbered(text: &mut Text, word: &[u8], x: u64)
 
 // The heading of a cycle that is reached, with the parts of a second where the times are in more than one.
 #[tactic(auto, unfolding(crate::specs::Text::of_parts))]
-fn push_reached(text: &mut Text, cycle: Cycle, parts: usize)
+fn push_reached(text: &mut Text<SIZE>, cycle: Cycle, parts: usize)
     requires room { length text.old + heading_size ≤ text_size }
     ensures text { text.new ≡ text.old ++ numbered reached_word cycle.0 ++ of_parts parts }
     ensures short { length (numbered reached_word cycle.0 ++ of_parts parts) ≤ heading_size }
@@ -88,7 +91,7 @@ fn push_reached(text: &mut Text, cycle: Cycle, parts: usize)
 
 // The first line: what the answer is.
 #[tactic(auto, unfolding(crate::specs::Text::heading))]
-fn push_heading(text: &mut Text, answer: Answer)
+fn push_heading(text: &mut Text<SIZE>, answer: Answer)
     requires { length text.old + suc heading_size ≤ text_size }
     ensures text { text.new ≡ text.old ++ first_line answer }
     ensures short { length (first_line answer) ≤ suc heading_size }
@@ -114,7 +117,7 @@ fn capacity_for(n: usize) -> usize
 
 // The text of the answer to a case.
 #[tactic(auto, unfolding(crate::specs::Text::answer_text, crate::specs::Text::lines_after))]
-fn case_text(case: Case) -> Text
+fn case_text(case: Case) -> Text<SIZE>
     ensures text { result ≡ answer_text case (answer case (program_zones case.n) program_space) }
     ensures within { length result ≤ text_size }
 {
@@ -133,7 +136,7 @@ fn case_text(case: Case) -> Text
 
 // The text of the answer to a packed case.
 #[tactic(auto, unfolding(crate::specs::Text::text))]
-pub fn report(bytes: &[u8]) -> Text
+pub fn report(bytes: &[u8]) -> Text<SIZE>
     ensures text { result ≡ report_text bytes.now }
     ensures within { length result ≤ text_size }
 {
@@ -149,7 +152,7 @@ pub fn report(bytes: &[u8]) -> Text
 
 // The text of the answer to an input of any length, of which the first bytes were read: all of them, or as many as there is room for.
 #[tactic(auto, using(crate::proofs::LongInput::long_input))]
-pub fn report_input(bytes: &[u8], size: usize) -> Text
+pub fn report_input(bytes: &[u8], size: usize) -> Text<SIZE>
     requires { (size ≤ length bytes.now) × (most_bytes < length bytes.now) }
     ensures text { (s : List ℕ) → take (length bytes.now) s ≡ take size bytes.now → result ≡ report_text s }
     ensures within { length result ≤ text_size }

@@ -83,7 +83,7 @@ fn search_with(work: &mut [i32], seen: &mut [i32], task: Task) -> Answer
         capacity: task.capacity,
         times: task.times,
     };
-    let count = lists::first_list(work, task.target, n);
+    let count = usize::from(lists::first_list(work, task.target, n));
     let mut list = ZoneList { base: 0, count };
     for k in 0..task.cycles.0 {
         if list.count == 0 {

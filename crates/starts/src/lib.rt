@@ -78,7 +78,8 @@ pub fn pick(zone: &[i64], n: usize) -> [Seconds; DEPARTURES]
     times
 }
 
-// What a bound allows in whole parts: "less than b" is at most b * parts - 1.
+// What a bound allows in whole parts: "less than b" is at most b * parts - 1. Each function over parts asks that they are few: a type that says it would
+// be no plainer, since the callers hand in a number and would prove the same to make one.
 fn part(halves: Halves, parts: usize) -> Seconds
     requires { Small InMemory (of_halves halves.0) × (parts ≤ suc most_departures) }
     ensures { most result.0 ≡ whole (scale parts (of_halves halves.0)) }

@@ -89,11 +89,9 @@ impl Outcome {
 
 // What a packed form of the case gives, beside the unpacked one.
 fn compared(out: Stdout, call: &Call, form: Form, unpacked: Outcome) -> io::Result<()> {
-    let mut packed = *call;
-    packed.pack(form);
-    if packed.length == 0 {
+    let Ok(packed) = call.packed(form) else {
         return print!(out; "refused");
-    }
+    };
     let packed = Outcome::of(&packed);
     if packed == unpacked {
         print!(out; "the same")

@@ -23,7 +23,7 @@ pub(crate) enum What {
     Output,
 }
 
-// A packed form.
+// A packed form: which of the writer's two functions is called, as model::Form says how the bytes lie.
 #[derive(Clone, Copy)]
 pub(crate) enum Form {
     Old,
@@ -74,13 +74,17 @@ impl Call {
         }
     }
 
-    // Makes it a call on the bytes of the case in a form: none where the writer refuses it.
-    pub(crate) fn pack(&mut self, form: Form) {
+    // The call on the bytes of the case in a form, where the writer takes it.
+    pub(crate) fn packed(&self, form: Form) -> Result<Call, Fault> {
         let mut bytes = [0; SIZE];
-        self.length = form.write(self.case, &mut bytes).unwrap_or(0);
-        self.bytes = bytes;
-        self.form = form;
-        self.what = What::Packed;
+        let length = form.write(self.case, &mut bytes)?;
+        Ok(Call {
+            what: What::Packed,
+            form,
+            bytes,
+            length,
+            ..*self
+        })
     }
 
     // Whether more is to be lent than there is.

@@ -93,8 +93,8 @@ impl Reader {
             Word::Time(time) => self.key = Some(Key::Time(time)),
             Word::Count(count) => self.key = Some(Key::Count(count)),
             Word::Made(what) => self.call.what = what,
-            Word::Packed => self.call.pack(Form::Old),
-            Word::Wide => self.call.pack(Form::Wide),
+            Word::Packed => self.pack(Form::Old),
+            Word::Wide => self.pack(Form::Wide),
             Word::Bytes => {
                 self.call.what = What::Packed;
                 self.key = Some(Key::Count(Count::Byte));
@@ -105,6 +105,17 @@ impl Reader {
             }
         }
         Ok(())
+    }
+
+    // The bytes are those of the case so far: none where the writer refuses it.
+    fn pack(&mut self, form: Form) {
+        self.call = self.call.packed(form).unwrap_or(Call {
+            what: What::Packed,
+            form,
+            bytes: [0; SIZE],
+            length: 0,
+            ..self.call
+        });
     }
 
     // The number of a departure follows: of the first that a bound is for, or behind a minus of the second.
@@ -152,7 +163,7 @@ impl Reader {
     fn time(&mut self, time: Time, size: u64) -> Result<(), NotRead> {
         let from_below = matches!(time, Time::Bound(Relation::More | Relation::AtLeast));
         let value = signed(size, self.minus != from_below)?;
-        let entry = if self.absent { None } else { Some(value) };
+        let entry = (!self.absent).then_some(value);
         self.minus = false;
         self.absent = false;
         match time {

@@ -26,6 +26,7 @@ impl fmt::Display for Refused {
 }
 
 // An answer without its start; the parts of a second that the start is in are told where there are more than one.
+// report::push_heading puts the same words as bytes, with a promise: a Display writes str, and would have to read those bytes back as UTF-8.
 #[derive(Clone, Copy)]
 pub(crate) struct Heading(pub Answer);
 

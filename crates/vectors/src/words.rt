@@ -114,8 +114,6 @@ impl Word {
 
 // The number that decimal digits are.
 pub(crate) fn decimal(digits: &[u8]) -> Result<u64, NotRead> {
-    let Ok(text) = str::from_utf8(digits) else {
-        return Err(NotRead);
-    };
+    let text = str::from_utf8(digits).map_err(|_| NotRead)?;
     text.parse().map_err(|_| NotRead)
 }

@@ -3,33 +3,26 @@ use Prim.Native.Nat.{ℕ, ◌≤◌}
 use native.Mathlib.Omega.{arith}
 use mathlib.Core.Path.{◌≡◌, refl, sym, ap, ◌∙◌}
 use mathlib.Core.Bool.{Bool, ◌||◌}
-use mathlib.Core.List.{List, map}
+use mathlib.Core.List.{List}
 use lib.IntN.{ℤ}
-use lib.ListN.{length, take}
-use lib.Seq.{length-take-le}
 use Rattle.std.specs.Prelude.{Result, Option, Some, None}
 use Rattle.model.specs.declared.Case.{Case}
 use Rattle.model.specs.declared.Fault.{Fault}
 use Rattle.model.specs.declared.Verdict.{Verdict}
-use Rattle.model.specs.Sizes.{bound_limit, table_size, pattern_size, most_bounds, most_cycles}
-use Rattle.model.specs.Lists.{Every}
+use Rattle.model.specs.Sizes.{most_cycles}
 use Rattle.model.specs.Pattern.{only_differences}
 use Rattle.model.specs.Network.{Network, repeat_of}
 use Rattle.model.specs.Search as S
 use Rattle.model.specs.Search.{Outcome, plan, plan_with, lists, outcome, parts_of, settled, search_from}
 use Rattle.model.specs.Answers.{answered}
-use Rattle.model.specs.Faults.{time_of, bound_of, network}
+use Rattle.model.specs.Faults.{network}
 use Rattle.model.specs.Demands.{InLimits}
-use Rattle.model.specs.Conditions.{Departures, InLimit, BoundInLimit}
-use Rattle.model.proofs.Limits.{case_of_lem, limits_of, room_of}
-use Rattle.model.proofs.Places.{table_fits, pattern_fits}
+use Rattle.model.proofs.Limits.{limits_of, room_of}
 use Rattle.model.proofs.Repeats.{repeat_sound}
 use Rattle.model.proofs.Searched as Q
 use Rattle.model.proofs.Searched.{plan_is}
 use Rattle.memory.specs.Numbers.{bounds_in, times_in}
-use Rattle.memory.specs.Conditions.{TableIn, PatternIn}
-use Rattle.memory.specs.Networks.{network_in}
-use Rattle.memory.proofs.Cased.{in_table, in_pattern, departures, times_in_limit, start_in_limit, target_in_limit}
+use Rattle.memory.specs.Networks.{network_in, CaseIn}
 use Rattle.judge.specs.Judgement.{start_parts}
 use Rattle.judge.proofs.Laws.{parts_are}
 use Rattle.powers.specs.declared.Again.{Again}
@@ -37,25 +30,6 @@ use Rattle.powers.specs.Readings.{repeat_read, repeat_in, TableReady}
 use Rattle.search.specs.Searching.{Searchable, Searched}
 use Rattle.verdict.specs.declared.Plan.{Plan}
 use Rattle.verdict.specs.Planning.{Planned, Counted}
-
--- ---- sizes: what is put in memory can be, and so can the numbers be lent
-module _ (c : Case) (capacity size : ℕ) (h : InLimits c capacity size) where
-  pub few : Departures c.n
-  few = departures c (case_of_lem c capacity size h)
-
-  pub times_storable : Every (InLimit bound_limit) (take (table_size c.n) c.times)
-  times_storable = times_in_limit c (case_of_lem c capacity size h)
-
-  pub start_storable : Every BoundInLimit (take (pattern_size c.n) c.start)
-  start_storable = start_in_limit c (case_of_lem c capacity size h)
-
-  pub target_storable : Every BoundInLimit (take (pattern_size c.n) c.target)
-  target_storable = target_in_limit c (case_of_lem c capacity size h)
-
-pub taken : (k : ℕ) (numbers : List ℤ) → k ≤ length numbers → length (take k numbers) ≡ k
-taken k numbers h = length-take-le k numbers h
-
-pub ruleset within_limits = (few, table_fits, pattern_fits, times_storable, start_storable, target_storable, taken)
 
 -- ---- the same network with another horizon: a search does not look at the horizon itself
 abbrev within : Network → ℕ → Network
@@ -75,35 +49,13 @@ plan_within w = go (plan_is w)
     go (Q.Planned.short s) = s.long_enough
 
 -- ---- the case in memory
-pub record Lent (c : Case) (times start target : List ℤ) : Type 0 where
-  pub table : TableIn c.n times
-  pub start_in : PatternIn c.n start
-  pub target_in : PatternIn c.n target
-  pub network_is : (k : ℕ) → network_in c.n k times start target ≡ within (network c) k
+module _ (c : Case) (capacity size : ℕ) (h : InLimits c capacity size) {times start target : List ℤ} (l : CaseIn c times start target) where
+  network_is : (k : ℕ) → network_in c.n k times start target ≡ within (network c) k
+  unfolding network
+  network_is k = ap (λ (w : Network). within w k) l.is
 
--- the first numbers of the arrays that it is put in
-pub lent : (c : Case) (capacity size : ℕ) → InLimits c capacity size → {count room : ℕ} (times start target : List ℤ)
-    → count ≡ table_size c.n → room ≡ pattern_size c.n
-    → (times_in (take count times) ≡ map time_of (take count c.times)) × (length times ≡ most_bounds)
-    → (bounds_in (take room start) ≡ map bound_of (take room c.start)) × (length start ≡ most_bounds)
-    → (bounds_in (take room target) ≡ map bound_of (take room c.target)) × (length target ≡ most_bounds)
-    → Lent c (take count times) (take room start) (take room target)
-unfolding network
-lent c capacity size h times start target k r t s g =
-    let d = few c capacity size h in
-    let t' = rw k at t.0 in
-    let s' = rw r at s.0 in
-    let g' = rw r at g.0 in
-    rw (k, r) (record {
-      table = in_table d times t.1;
-      start_in = in_pattern d start s.1 refl;
-      target_in = in_pattern d target g.1 refl;
-      network_is = λ k. rw (t', s', g') refl;
-    })
-
-module _ (c : Case) (capacity size : ℕ) (h : InLimits c capacity size) {times start target : List ℤ} (l : Lent c times start target) where
   times_are : times_in times ≡ (network c).times
-  times_are = ap (λ (w : Network). w.times) (l.network_is 0)
+  times_are = ap (λ (w : Network). w.times) (network_is 0)
 
   -- its powers can be searched
   pub powers_ready : TableReady c.n times
@@ -130,8 +82,8 @@ module _ (c : Case) (capacity size : ℕ) (h : InLimits c capacity size) {times 
       planned : Planned (plan (network c)) p
       unfolding plan network
       planned =
-          let starts = ap (λ (w : Network). w.start) (l.network_is 0) in
-          let targets = ap (λ (w : Network). w.target) (l.network_is 0) in
+          let starts = ap (λ (w : Network). w.start) (network_is 0) in
+          let targets = ap (λ (w : Network). w.target) (network_is 0) in
           rw (repeat_is, free_is, starts, targets) at made
 
       -- over which the network in memory can be searched
@@ -142,12 +94,12 @@ module _ (c : Case) (capacity size : ℕ) (h : InLimits c capacity size) {times 
           let w = limits_of c capacity size h in
           record {
             horizon = c.horizon.0;
-            limits = rw (l.network_is c.horizon.0) w;
-            parts_told = rw (l.network_is c.horizon.0) (e ∙ parts_are c w.table.departures);
+            limits = rw (network_is c.horizon.0) w;
+            parts_told = rw (network_is c.horizon.0) (e ∙ parts_are c w.table.departures);
             within = omega (arith, planned.cycles, plan_within (network c));
             table = l.table;
-            start_held = l.start_in;
-            target_held = l.target_in;
+            start_held = l.start_held;
+            target_held = l.target_held;
             some_zones = some_zones;
             long = long;
           }
@@ -157,5 +109,5 @@ module _ (c : Case) (capacity size : ℕ) (h : InLimits c capacity size) {times 
           → r ≡ answered (outcome (network c) capacity)
       unfolding outcome
       outcome_found r s =
-          (rw (l.network_is p.cycles.0, planned.cycles, planned.end) at s)
+          (rw (network_is p.cycles.0, planned.cycles, planned.end) at s)
           ∙ ap answered (same_search (network c) (plan (network c)).cycles capacity (plan (network c)).cycles (plan (network c)).end)

@@ -11,6 +11,7 @@ ghost use Rattle.powers.specs.Readings.{repeat_read};
 ghost use Rattle.verdict.specs.Planning.{Planned, Counted};
 
 use ints::Cycle;
+use memory::Loaded;
 use model::{Answer, Case};
 use powers::Again;
 use search::{End, Task};
@@ -41,21 +42,17 @@ fn plan_of(repeat: Option<Again>, differences: bool, horizon: Cycle) -> Plan
 }
 
 // The answer for a case within the limits.
-#[tactic(auto, using(crate::proofs::Within::within_limits))]
+#[tactic(auto, using(model::proofs::Limits::case_of_lem))]
 fn searched(case: Case, capacity: usize, work: &mut [i32]) -> Answer
     requires { InLimits case capacity (length work.old) }
     ensures answer { result ≡ answered (outcome (network case) capacity) }
     ensures workspace { work.new ≡ replicate (length work.old) (pos 0) }
 {
     let n = case.n;
-    let count = memory::table_size(n);
-    let size = memory::pattern_size(n);
-    let times = memory::times_in(case.times, count);
-    let start = memory::bounds_in(case.start, size);
-    let target = memory::bounds_in(case.target, size);
-    let times = &times[..count];
-    let start = &start[..size];
-    let target = &target[..size];
+    let loaded = Loaded::of(case);
+    let times = loaded.times();
+    let start = loaded.start();
+    let target = loaded.target();
     let differences = memory::differences(start, target, n);
     let plan = plan_of(powers::first_repeat(times, n), differences, case.horizon);
     let task = Task {

@@ -6,7 +6,9 @@ use mathlib.Core.Path.{◌≡◌, refl, sym, ap, ◌∙◌}
 use mathlib.Core.List.{List, [], ◌∷◌, ◌++◌}
 use lib.IntN.{ℤ, pos}
 use lib.ListN.{length, take, drop, replicate, get_or, set, get_or-append, get_or-replicate, length-take, length-drop, length-append, length-replicate}
-use Rattle.std.proofs.lemmas.List.{get_or-take, get_or-drop, get_or-append_right}
+use lib.Seq.{length-take-le}
+use borrow.Rule.Slice.PartMut.{put_mid, post_of, same_len_mid}
+use Rattle.std.proofs.lemmas.List.{get_or-take, get_or-drop, get_or-append_right, set-append_left, set-append_right, take-append-drop}
 use mir.Syntax.{w32}
 use mir.Val.{SFits, to_z, of_z}
 use mir.ValLaws.{to_z-of_z}
@@ -78,3 +80,29 @@ set_back (x ∷ d) (suc k) = ap (◌∷◌ x) (set_back d k)
 pub same_put : (z : List ℤ) (k : ℕ) (x : ℤ) → k < length z → SFits w32 x → bound_in x ≡ bound_in (get_or z k (pos 0))
     → bounds_in (set z k (to_z w32 (of_z w32 x))) ≡ bounds_in z
 same_put z k x h f e = number_put z k x _ f (e ∙ sym (get_d_bounds z k h)) ∙ set_back (bounds_in z) k
+
+-- ---- the numbers of a zone from base on that are lent: those that stand there now, in the zone
+module _ (base k : ℕ) (zone row : List ℤ) (room : base + k ≤ length zone) (long : length row ≡ k) where
+  front : length (take base zone) ≡ base
+  front = length-take-le base zone (omega arith)
+
+  pub part_length : length (put_mid base k zone row) ≡ length zone
+  part_length = same_len_mid base k zone row (long ∙ sym (simp (length-take, length-drop) (omega arith)))
+
+  pub part_at : (j : ℕ) → j < k → get_or (put_mid base k zone row) (base + j) (pos 0) ≡ get_or row j (pos 0)
+  part_at j h =
+      let at : base + j - base ≡ j = omega arith in
+      get_or-append_right (take base zone) _ base (base + j) (pos 0) front (omega arith)
+      ∙ rw at (get_or-append row (post_of base k zone) (pos 0) j (omega (arith, long)))
+
+  pub part_set : (j : ℕ) (x : ℤ) → j < k → set (put_mid base k zone row) (base + j) x ≡ put_mid base k zone (set row j x)
+  part_set j x h =
+      let at : base + j - base ≡ j = omega arith in
+      set-append_right (take base zone) _ base (base + j) x front (omega arith)
+      ∙ rw at (ap (λ l. take base zone ++ l) (set-append_left row (post_of base k zone) j x (omega (arith, long))))
+
+pub part_long : (base k : ℕ) (zone : List ℤ) → base + k ≤ length zone → length (take k (drop base zone)) ≡ k
+part_long base k zone room = simp (length-take, length-drop) (omega arith)
+
+pub part_same : (base k : ℕ) (zone : List ℤ) → put_mid base k zone (take k (drop base zone)) ≡ zone
+part_same base k zone = ap (λ l. take base zone ++ l) (take-append-drop k (drop base zone)) ∙ take-append-drop base zone

@@ -6,7 +6,9 @@ use lib.IntN.{ℤ, pos, nat_abs, ◌+ℤ◌}
 use mir.Syntax.{w32, w64}
 use mir.Val.{SFits, to_z, of_z}
 use mir.ValLaws.{to_z-of_z}
-use Rattle.ints.proofs.Integers.{up, dn, ints, range, fits, add_ud, pos_ud, abs_ud, nat_le_z, nat_gt_z}
+use Rattle.std.specs.Int.{int_min}
+use Rattle.std.specs.Prelude.{int_lt}
+use Rattle.ints.proofs.Integers.{up, dn, ints, range, fits, add_ud, pos_ud, abs_ud, lt_z_true, lt_z_false, nat_le_z, nat_gt_z}
 use Rattle.model.specs.Bound as B
 use Rattle.model.specs.Bound.{Bound, same_z, tighter}
 use Rattle.model.specs.Conditions.{Small}
@@ -39,7 +41,7 @@ module _ (old new : ℤ) (f : SFits w32 old) where
     below : up new < none_in
     below = omega (ints, range f, abs_ud new)
 
-    pub new_tighter : bound_in new ≡ tighter (bound_in old) (of_halves new)
+    new_tighter : bound_in new ≡ tighter (bound_in old) (of_halves new)
     unfolding bound_in tighter
     new_tighter = bound_stored new below ∙ go (same_z old (pos none_in))
       where
@@ -47,12 +49,12 @@ module _ (old new : ℤ) (f : SFits w32 old) where
         go true = refl
         go false = rw (tighter_halves old new, nat_gt_z old new l)
 
-    pub new_fits : Small Limit (tighter (bound_in old) (of_halves new)) → SFits w32 new
+    new_fits : Small Limit (tighter (bound_in old) (of_halves new)) → SFits w32 new
     new_fits s =
         let h = halves_size new (rw (← new_tighter, bound_stored new below) at s) in
         narrow new below (omega (ints, h))
 
-  pub old_tighter : up old + dn new ≤ up new + dn old → Small Limit (tighter (bound_in old) (of_halves new))
+  old_tighter : up old + dn new ≤ up new + dn old → Small Limit (tighter (bound_in old) (of_halves new))
       → bound_in old ≡ tighter (bound_in old) (of_halves new)
   unfolding bound_in tighter
   old_tighter l s = go (same_z old (pos none_in)) refl s
@@ -60,3 +62,12 @@ module _ (old new : ℤ) (f : SFits w32 old) where
       go : (t : Bool) → same_z old (pos none_in) ≡ t → Small Limit (tighter (read t) (of_halves new)) → read t ≡ tighter (read t) (of_halves new)
       go true e s = let is = same_z_true old (pos none_in) e in absurd (omega (ints, is, pos_ud none_in, halves_size new s))
       go false e s = rw (tighter_halves old new, nat_le_z old new l)
+
+  -- the smaller of both has 32 bits
+  pub least : (m : ℤ) → m ≡ int_min old new → Small Limit (tighter (bound_in old) (of_halves new))
+      → SFits w32 m × (bound_in m ≡ tighter (bound_in old) (of_halves new))
+  least m e s = rw e (go (int_lt new old) refl)
+    where
+      go : (t : Bool) → int_lt new old ≡ t → SFits w32 (cond t new old) × (bound_in (cond t new old) ≡ tighter (bound_in old) (of_halves new))
+      go true e = let l = lt_z_true new old e in (new_fits l s, new_tighter l)
+      go false e = (f, old_tighter (lt_z_false new old e) s)

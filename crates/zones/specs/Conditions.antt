@@ -6,7 +6,7 @@ use Rattle.model.specs.Network.{Time}
 use Rattle.model.specs.Search.{row_constraints}
 use Rattle.model.specs.Conditions.{Column, Cols, Closed, Fitting, Meetable}
 use Rattle.memory.specs.Numbers.{bounds_in, times_in, Limit}
-use Rattle.memory.specs.Conditions.{ZoneIn, TableIn, PatternIn}
+use Rattle.memory.specs.Conditions.{ZoneIn, PatternIn}
 use Rattle.memory.specs.Matrices.{leaves, Left}
 
 -- a zone with its tightest bounds, which are d
@@ -23,11 +23,8 @@ Taken n z ks r z' = Left (leaves n (bounds_in z) ks) r (bounds_in z')
 
 -- part can take in what row i adds with column s for the preimage of zone: no set on the way has a finite bound beyond L. cols holds the columns of the
 -- rows before; p, a and d are what the numbers stand for
-pub record RowsReady {A : Type 0} (L n : ℕ) (part : List A) (p : Matrix) (times : List A) (a : List Time) (zone : List A) (d : Matrix)
-    (cols : List ℕ) (i s : ℕ) : Type 0 where
+pub record RowsReady {A : Type 0} (L n : ℕ) (part : List A) (p : Matrix) (a : List Time) (d : Matrix) (cols : List ℕ) (i s : ℕ) : Type 0 where
   pub set : ClosedAs n part p
-  pub table : TableIn n times
-  pub source : ZoneIn n zone
   pub from_one : 1 ≤ i
   pub to_n : i ≤ n
   pub cols_size : i ≤ length cols
@@ -37,7 +34,7 @@ pub record RowsReady {A : Type 0} (L n : ℕ) (part : List A) (p : Matrix) (time
 
 -- in numbers of 32 bits
 abbrev pub RowReady : ℕ → List ℤ → List ℤ → List ℤ → List ℕ → ℕ → ℕ → Type 0
-RowReady n part times zone cols i s = RowsReady Limit n part (bounds_in part) times (times_in times) zone (bounds_in zone) cols i s
+RowReady n part times zone cols i s = RowsReady Limit n part (bounds_in part) (times_in times) (bounds_in zone) cols i s
 
 -- zone can take in the constraints of a pattern
 pub record CommonReady (n : ℕ) (zone pattern : List ℤ) : Type 0 where

@@ -135,17 +135,13 @@ pub record AttainsReady {A : Type 0} (L n : ℕ) (p : Matrix) (times : List A) (
   pub adds : Adding n times a i s
   pub from_one : 1 ≤ i
 
-pub record Keeping {A : Type 0} (L n : ℕ) (p : Matrix) (times : List A) (a : List Time) (zone : List A) (c e : Choice) (ks : List Constraint)
-    : Type 0 where
+pub record Keeping {A : Type 0} (L n : ℕ) (p : Matrix) (times : List A) (a : List Time) (c e : Choice) (ks : List Constraint) : Type 0 where
   pub taking : Takes n L p ks
-  pub source : ZoneIn n zone
   pub adds : Adding n times a c.row c.column
   pub adds_other : Adding n times a e.row e.column
 
-pub record KeepsImages {A : Type 0} (L n : ℕ) (p : Matrix) (times : List A) (a : List Time) (zone : List A) (d : Matrix) (cols : List ℕ) (i s : ℕ)
-    : Type 0 where
+pub record KeepsImages {A : Type 0} (L n : ℕ) (p : Matrix) (times : List A) (a : List Time) (d : Matrix) (cols : List ℕ) (i s : ℕ) : Type 0 where
   pub taking : Takes n L p (images n a d cols i s)
-  pub source : ZoneIn n zone
   pub adds : Adding n times a i s
   pub cols_size : i ≤ length cols
   pub columns : Cols n a cols i

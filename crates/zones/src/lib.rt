@@ -10,7 +10,7 @@ ghost use Rattle.model.specs.Pattern.{pattern_constraints};
 ghost use Rattle.model.specs.Search.{row_constraints};
 ghost use Rattle.model.specs.Conditions.{Small};
 ghost use Rattle.memory.specs.Numbers.{of_halves, bound_in, bounds_in, as_bound, Limit, Widest};
-ghost use Rattle.memory.specs.Conditions.{ZoneIn};
+ghost use Rattle.memory.specs.Conditions.{TableIn, ZoneIn};
 ghost use Rattle.memory.specs.Matrices.{RowFilled, Relaxable, across, leaves, Left, limited, Takes, TakesOne, ConstrainReady};
 ghost use Rattle.zones.specs.Conditions.{Taken, RowsReady, CommonReady};
 ghost use Rattle.zones.specs.Inner.{narrow_most, Narrow, RowNarrow, room_of_row, RowIn, WidthOf, ColumnsOf, beside, EntryReady, EntriesReady};
@@ -47,10 +47,7 @@ fn tighter(old: i32, new: Halves) -> i32
     requires { Small Limit (tighter (bound_in old) (of_halves new.0)) }
     ensures { bound_in result ≡ tighter (bound_in old) (of_halves new.0) }
 {
-    if new.0 < old as i64 {
-        return new.0 as i32;
-    }
-    old
+    (old as i64).min(new.0) as i32
 }
 
 // A number of row i with the way by row b, whose number there is rest. The sum is in 32 bits where narrow says so, else in 64.
@@ -68,27 +65,6 @@ fn relaxed(old: i32, rest: i32, way: Halves, narrow: bool) -> i32
     tighter(old, way + Halves(rest as i64))
 }
 
-// Row i takes in what follows by way of row b, which is rest, place by place; way bounds x(i) - x(b). Beyond the row rest is blank, and
-// what stands there stays. The loop compiles to one over vectors of eight numbers; it goes by index, since after a zip of iter_mut no proof knows what
-// the row holds.
-fn relax_entries(
-    zone: &mut [i32],
-    n: usize,
-    i: usize,
-    columns: usize,
-    rest: &[i32],
-    way: Halves,
-    narrow: bool,
-)
-    requires { EntriesReady n zone.old rest.now i columns way.0 narrow }
-    ensures { RowMade n zone.old zone.new (beside n zone.old rest.now i (of_halves way.0)) i }
-{
-    let base = place(n + 1, i, 0);
-    for j in 0..columns {
-        zone[base + j] = relaxed(zone[base + j], rest[j], way, narrow);
-    }
-}
-
 // How many columns are passed over in row i: width, or n + 1 where the zone ends before.
 fn columns_at(size: usize, n: usize, i: usize, width: usize) -> usize
     requires { (size ≡ zone_size n) × (i < suc n) × WidthOf n width }
@@ -101,29 +77,45 @@ fn columns_at(size: usize, n: usize, i: usize, width: usize) -> usize
     n + 1
 }
 
-// A row that was copied: its numbers, how many of them are passed over, and whether those can be added in 32 bits.
+// A row that was copied: which it is, its numbers, how many of them are passed over, and whether those can be added in 32 bits.
 #[derive(Clone, Copy)]
 struct Rest<'a> {
+    row: usize,
     numbers: &'a [i32],
     width: usize,
     narrow: bool,
 }
 
-// Row i takes in the way by row b, which is rest. Where way is blank, or the zone bounds x(i) - x(b) by it already, nothing follows, and the row is passed
-// over.
-fn relax_row(zone: &mut [i32], n: usize, i: usize, b: usize, rest: Rest, way: Number)
-    requires { RelaxReady n zone.old rest.numbers.now i b rest.width rest.narrow (as_bound way) }
-    ensures { RowMade n zone.old zone.new (across n (bounds_in zone.old) i b (as_bound way)) i }
+// Row i takes in what follows by way of the row that was copied, place by place; way bounds x(i) - x(rest.row). Beyond the row rest is blank, and what
+// stands there stays. The loop compiles to one over vectors of eight numbers.
+fn relax_entries(zone: &mut [i32], n: usize, i: usize, rest: Rest, way: Halves)
+    requires { EntriesReady n zone.old rest.numbers.now i rest.width way.0 rest.narrow }
+    ensures { RowMade n zone.old zone.new (beside n zone.old rest.entry.numbers.now i (of_halves way.0)) i }
+{
+    let base = place(n + 1, i, 0);
+    for (j, number) in zone[base..base + rest.width].iter_mut().enumerate() {
+        *number = relaxed(*number, rest.numbers[j], way, rest.narrow);
+    }
+}
+
+// Row i takes in the way by the row that was copied. Where way is blank, or the zone bounds x(i) - x(rest.row) by it already, nothing follows, and the row
+// is passed over.
+fn relax_row(zone: &mut [i32], n: usize, i: usize, rest: Rest, way: Number)
+    requires { RelaxReady n zone.old rest.numbers.now i rest.row rest.width rest.narrow (as_bound way) }
+    ensures { RowMade n zone.old zone.new (across n (bounds_in zone.old) i rest.entry.row (as_bound way)) i }
 {
     let Some(c) = way.0 else {
         return;
     };
-    if bound_at(zone, n, i, b).implies(c) {
+    if bound_at(zone, n, i, rest.row).implies(c) {
         return;
     }
-    let columns = columns_at(zone.len(), n, i, rest.width);
-    let narrow = rest.narrow & !Seconds(c.0).beyond(NARROW);
-    relax_entries(zone, n, i, columns, rest.numbers, c, narrow)
+    let passed = Rest {
+        width: columns_at(zone.len(), n, i, rest.width),
+        narrow: rest.narrow & !Seconds(c.0).beyond(NARROW),
+        ..rest
+    };
+    relax_entries(zone, n, i, passed, c)
 }
 
 // The columns of a row, and so many more that they are a multiple of eight.
@@ -155,7 +147,8 @@ fn is_narrow(raw: i32) -> bool
     !Seconds::from(raw).beyond(NARROW)
 }
 
-// So does each of the first numbers of a row.
+// So does each of the first numbers of a row. The loop looks at all of them, and so compiles to one over vectors; `all`, which stops early, took up to twice
+// as long.
 fn all_narrow(row: &[i32], count: usize) -> bool
     requires { (count ≤ length row.now) × (count ≤ room_of_row) }
     ensures { result ≡ true → RowNarrow count row.now }
@@ -206,13 +199,14 @@ impl Constrained for i32 {
         let row = row_of(zone, n, b);
         let width = width_of(n);
         let rest = Rest {
+            row: b,
             numbers: &row,
             width,
             narrow: all_narrow(&row, width),
         };
         for i in 0..n + 1 {
             let way = bound_at(zone, n, i, a) + Number(Some(c));
-            relax_row(zone, n, i, b, rest, way);
+            relax_row(zone, n, i, rest, way);
         }
     }
 }
@@ -289,22 +283,15 @@ fn lead(first: bool, j: usize, s: usize, c: Seconds) -> Seconds
     c
 }
 
-// In row i column s attains the largest sum: with others, or as the first that does.
-pub fn attain<T: Constrained>(
-    part: &mut [T],
-    times: &[T],
-    n: usize,
-    i: usize,
-    s: usize,
-    first: bool,
-) -> bool
-    requires { AttainsReady T.limit n (T.bounds_in part.old) times.now (T.times_in times.now) i s first }
-    ensures { Left (leaves n (T.bounds_in part.old) (attains_by first n (T.times_in times.now) i s)) result (T.bounds_in part.new) }
+// In its row the column attains the largest sum: with others, or as the first that does.
+pub fn attain<T: Constrained>(part: &mut [T], times: &[T], n: usize, c: Choice, first: bool) -> bool
+    requires { AttainsReady T.limit n (T.bounds_in part.old) times.now (T.times_in times.now) c.row c.column first }
+    ensures { Left (leaves n (T.bounds_in part.old) (attains_by first n (T.times_in times.now) c.row c.column)) result (T.bounds_in part.new) }
 {
-    let c = chosen(times, n, i, s);
+    let added = chosen(times, n, c.row, c.column);
     for j in 1..n + 1 {
-        let limit = Number::slack(lead(first, j, s, c), time_at(times, n, i, j));
-        if !take_in(part, n, j, s, limit) {
+        let limit = Number::slack(lead(first, j, c.column, added), time_at(times, n, c.row, j));
+        if !take_in(part, n, j, c.column, limit) {
             return false;
         }
     }
@@ -312,16 +299,26 @@ pub fn attain<T: Constrained>(
 }
 
 // The zone in which images by a table are to be, of n departures.
-#[derive(Clone, Copy)]
-struct Target<'a, T> {
-    times: &'a [T],
-    zone: &'a [T],
-    n: usize,
+pub struct Target<'a, T> {
+    pub times: &'a [T],
+    pub zone: &'a [T],
+    pub n: usize,
+    ghost times_in: { TableIn n times.now },
+    ghost zone_in: { ZoneIn n zone.now },
 }
+
+// Not derived: the derive does not take a ghost field beside a type parameter.
+impl<T> Clone for Target<'_, T> {
+    fn clone(&self) -> Result<Self, std::alloc::AllocError> {
+        Ok(*self)
+    }
+}
+
+impl<T> Copy for Target<'_, T> {}
 
 // The image of a.row less that of b.row keeps to the zone; where the zone has no bound there, nothing is asked.
 fn keep_one<T: Constrained>(part: &mut [T], target: Target<T>, a: Choice, b: Choice) -> bool
-    requires { Keeping T.limit target.n (T.bounds_in part.old) target.times.now (T.times_in target.times.now) target.zone.now a b
+    requires { Keeping T.limit target.n (T.bounds_in part.old) target.times.now (T.times_in target.times.now) a b
         (keep_one target.n (T.times_in target.times.now) (T.bounds_in target.zone.now) a b) }
     ensures { let t = target.entry in
         Left (leaves t.n (T.bounds_in part.old) (keep_one t.n (T.times_in t.times.now) (T.bounds_in t.zone.now) a b)) result (T.bounds_in part.new) }
@@ -339,7 +336,7 @@ fn keep_one<T: Constrained>(part: &mut [T], target: Target<T>, a: Choice, b: Cho
 
 // Both ways.
 fn keep_both<T: Constrained>(part: &mut [T], target: Target<T>, a: Choice, b: Choice) -> bool
-    requires { Keeping T.limit target.n (T.bounds_in part.old) target.times.now (T.times_in target.times.now) target.zone.now a b
+    requires { Keeping T.limit target.n (T.bounds_in part.old) target.times.now (T.times_in target.times.now) a b
         (keep_both target.n (T.times_in target.times.now) (T.bounds_in target.zone.now) a b) }
     ensures { let t = target.entry in
         Left (leaves t.n (T.bounds_in part.old) (keep_both t.n (T.times_in t.times.now) (T.bounds_in t.zone.now) a b)) result (T.bounds_in part.new) }
@@ -347,49 +344,41 @@ fn keep_both<T: Constrained>(part: &mut [T], target: Target<T>, a: Choice, b: Ch
     keep_one(part, target, a, b) && keep_one(part, target, b, a)
 }
 
-// The images of row i and of each row before keep to the zone.
+// The images of c.row and of each row before keep to the zone; cols holds the columns of those.
 pub fn keep_images<T: Constrained>(
     part: &mut [T],
-    times: &[T],
-    zone: &[T],
+    target: Target<T>,
     cols: &[usize],
-    n: usize,
-    i: usize,
-    s: usize,
+    c: Choice,
 ) -> bool
-    requires { KeepsImages T.limit n (T.bounds_in part.old) times.now (T.times_in times.now) zone.now (T.bounds_in zone.now) cols.now i s }
-    ensures { Left (leaves n (T.bounds_in part.old) (images n (T.times_in times.now) (T.bounds_in zone.now) cols.now i s)) result (T.bounds_in part.new) }
+    requires { KeepsImages T.limit target.n (T.bounds_in part.old) target.times.now (T.times_in target.times.now) (T.bounds_in target.zone.now)
+        cols.now c.row c.column }
+    ensures { let t = target.entry in
+        Left (leaves t.n (T.bounds_in part.old) (images t.n (T.times_in t.times.now) (T.bounds_in t.zone.now) cols.now c.row c.column))
+        result (T.bounds_in part.new) }
 {
-    let target = Target { times, zone, n };
-    let last = Choice { row: i, column: s };
-    for l in 0..i {
+    for l in 0..c.row {
         let earlier = Choice {
             row: l,
             column: cols[l],
         };
-        if !keep_both(part, target, last, earlier) {
+        if !keep_both(part, target, c, earlier) {
             return false;
         }
     }
     true
 }
 
-// Adds to part what row i adds with column s for the preimage of zone; cols holds the columns of rows 0 to i - 1.
+// Adds to part what c.row adds with its column for the preimage of the zone; cols holds the columns of the rows before.
 // False where no times are left, and then what stands in part is free.
-pub fn add_row<T: Constrained>(
-    part: &mut [T],
-    times: &[T],
-    zone: &[T],
-    cols: &[usize],
-    n: usize,
-    i: usize,
-    s: usize,
-) -> bool
-    requires { RowsReady T.limit n part.old (T.bounds_in part.old) times.now (T.times_in times.now) zone.now (T.bounds_in zone.now) cols.now i s }
-    ensures { Left (leaves n (T.bounds_in part.old) (row_constraints n (T.times_in times.now) (T.bounds_in zone.now) cols.now i s))
+pub fn add_row<T: Constrained>(part: &mut [T], target: Target<T>, cols: &[usize], c: Choice) -> bool
+    requires { RowsReady T.limit target.n part.old (T.bounds_in part.old) (T.times_in target.times.now) (T.bounds_in target.zone.now)
+        cols.now c.row c.column }
+    ensures { let t = target.entry in
+        Left (leaves t.n (T.bounds_in part.old) (row_constraints t.n (T.times_in t.times.now) (T.bounds_in t.zone.now) cols.now c.row c.column))
         result (T.bounds_in part.new) }
 {
-    attain(part, times, n, i, s, false) && keep_images(part, times, zone, cols, n, i, s)
+    attain(part, target.times, target.n, c, false) && keep_images(part, target, cols, c)
 }
 
 // Takes in what bound says of x(i) - x(j), for each j. False where no times are left, and then what stands in zone is free.

@@ -8,4 +8,5 @@ use Rattle.ahead.proofs.need.Given as goal
 
 abbrev pub invariant-loop-o : goal.invariant-loop-o
 invariant-loop-o l =
-    Least l.n (λ o. asks (entry (suc l.n) (bounds_in l.zone) o l.r) (row_time l.n (times_in l.times) o l.j)) l.o (as_bound l.least)
+    let t = l.target in
+    Least t.n (λ o. asks (entry (suc t.n) (bounds_in t.zone.now) o l.r) (row_time t.n (times_in t.times.now) o l.j)) l.o (as_bound l.least)

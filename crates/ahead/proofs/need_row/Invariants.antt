@@ -7,4 +7,6 @@ use Rattle.ahead.specs.Needs.{need}
 use Rattle.ahead.proofs.need_row.Given as goal
 
 abbrev pub invariant-loop-j : goal.invariant-loop-j
-invariant-loop-j l = RowFilled l.n (bounds_in l.fn.table) (bounds_in l.table) (need l.n (times_in l.times) (Memory.bounds_in l.zone) l.r) l.r l.j
+invariant-loop-j l =
+    let t = l.target in
+    RowFilled t.n (bounds_in l.fn.table) (bounds_in l.table) (need t.n (times_in t.times.now) (Memory.bounds_in t.zone.now) l.r) l.r l.j

@@ -7,4 +7,6 @@ use Rattle.ahead.specs.Needs.{need}
 use Rattle.ahead.proofs.needs.Given as goal
 
 abbrev pub invariant-loop-r : goal.invariant-loop-r
-invariant-loop-r l = Filled l.n (bounds_in l.fn.table) (bounds_in l.table) (need l.n (times_in l.times) (Memory.bounds_in l.zone)) l.r
+invariant-loop-r l =
+    let t = l.target in
+    Filled t.n (bounds_in l.fn.table) (bounds_in l.table) (need t.n (times_in t.times.now) (Memory.bounds_in t.zone.now)) l.r

@@ -1,24 +1,23 @@
--- Place by place: what is needed there, against the set.
-use native.Mathlib.Omega.{arith}
-use Prim.Native.Nat.{◌+◌}
-use mathlib.Core.Path.{ap, ◌∙◌}
-use Rattle.model.specs.Bound.{most}
-use Rattle.model.specs.Conditions.{sized}
-use Rattle.model.proofs.Size.{small_mono, small_sum}
-use Rattle.memory.specs.Numbers.{InMemory}
-use Rattle.memory.specs.Wide.{Largest}
-use Rattle.ahead.proofs.Tabled.{less_nothing}
+-- A place at which it is beyond.
+use Rattle.std.proofs.Common.{rules, tests, ◌+◌, arith, refl}
+use Rattle.std.proofs.lemmas.Iterator.{serves_from_Range, cases_from_any, YieldsList-from_range}
+use Rattle.memory.specs.Numbers as Memory
+use Rattle.memory.specs.Numbers.{times_in}
+use Rattle.memory.specs.Wide.{bounds_in}
+use Rattle.ahead.specs.Needs.{Beyond}
+use Rattle.ahead.proofs.Tabled.{own_read}
+use Rattle.ahead.proofs.Ranges.{some_number}
 use Rattle.ahead.proofs.unfit.Goals as goal
 
-pub loop-j-init : goal.loop-j-init
-loop-j-init c =
-    let is = c.difference-own.ensures ∙ ap most (less_nothing c.chosen-added.result.0) in
-    (is ∙ ap most c.chosen-added.ensures.is, rw is (sized c.chosen-added.ensures.small))
+pub any-requires-clause-callable : goal.any-requires-clause-callable
+any-requires-clause-callable c =
+    let own = own_read c.difference-own.result c.chosen-added.ensures c.difference-own.ensures in
+    serves_from_Range (λ x q k. search (rules, tests)) (λ x low high. search (rules, own))
 
-pub add-needed-requires : goal.add-needed-requires
-add-needed-requires c = small_mono {B = Largest + InMemory} (omega arith) (small_sum c.bound_at.ensures.small c.loop-j.invariant.1)
-
-pub add-requires : goal.add-requires
-add-requires c =
-    small_mono (omega arith) (small_sum {C = Largest + InMemory} c.bound_at-in-loop-j.ensures.small
-    (rw c.add-needed.ensures (small_sum c.bound_at.ensures.small c.loop-j.invariant.1)))
+pub returns : goal.returns
+returns c t =
+    let o = c.args.outlook in
+    let out = Beyond o.n (times_in o.times.now) (bounds_in o.table.now) (Memory.bounds_in c.args.part.now) c.args.c in
+    let (j, l, h, beyond) = some_number out _ 0 _ t (cases_from_any _ _ _ out (λ j. Unit {0}) c.any.ensures.ran
+    (YieldsList-from_range 0 (o.n + 1) _ refl refl) (λ x q k. search (rules, tests)) (λ x q k. search (rules, tests))) in
+    record { at = j; to_n = omega (arith, h); beyond = beyond }

@@ -1,6 +1,5 @@
 -- The case is put in memory; the zones of both patterns in whole parts, and the decision between them.
 use Rattle.std.proofs.Common.{refl}
-use lib.ListN.{take}
 use Rattle.model.specs.Faults.{network}
 use Rattle.decide.proofs.Zoned.{Loaded, start_wholable, target_wholable, no_start, no_target, search_ready, decided_so}
 use Rattle.decide.proofs.Loaded.{loaded}
@@ -8,11 +7,10 @@ use Rattle.decide.proofs.accepted.Goals as goal
 use Rattle.decide.proofs.accepted.Goals.{After-parts-parts}
 
 in_memory : (c : After-parts-parts) →
-    Loaded (network c.args.case) c.args.case.n c.parts-parts.result c.args.horizon (take c.table_size-count.result c.times_in-times.result)
-    (take c.pattern_size-size.result c.bounds_in-start.result) (take c.pattern_size-size.result c.bounds_in-target.result)
+    Loaded (network c.args.case) c.args.case.n c.parts-parts.result c.args.horizon c.times-times.result.now c.start-start.result.now c.target-target.result.now
 in_memory c =
-    loaded c.args.case c.args.horizon c.requires _ _ _ c.table_size-count.ensures c.pattern_size-size.ensures
-    c.times_in-times.ensures c.bounds_in-start.ensures c.bounds_in-target.ensures c.parts-parts.ensures
+    loaded c.args.case c.args.horizon c.requires (rw (← c.times-times.ensures, ← c.start-start.ensures, ← c.target-target.ensures) at c.of-loaded.ensures)
+    c.parts-parts.ensures
 
 pub whole_pattern-requires : goal.whole_pattern-requires
 whole_pattern-requires c = start_wholable (in_memory (goal.at.whole_pattern-requires c).After-parts-parts)

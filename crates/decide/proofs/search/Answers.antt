@@ -7,4 +7,4 @@ loop-k-init c = going_start c.requires c.copy_from_slice.ensures.after _ c.first
 
 pub loop-k-preserved : goal.loop-k-preserved
 loop-k-preserved c =
-    going_on c.requires c.loop-k.invariant c.loop-k-test.true c.next-again.ensures c.table_size-size.ensures c.in-Missed.ensures c.else-task.either
+    going_on c.requires c.loop-k.invariant c.loop-k-test.true c.next-again.ensures c.table_size-size.ensures c.in-Continue.ensures c.else-task.either

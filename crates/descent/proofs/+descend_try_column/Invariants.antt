@@ -8,10 +8,10 @@ abbrev rows : ℕ → ℕ → ℕ
 rows n i = (suc n - i) + (suc n - i)
 
 abbrev pub decreases-descend : goal.decreases-descend
-decreases-descend l = suc (rows l.n l.i)
+decreases-descend l = suc (rows l.target.n l.i)
 
 abbrev pub decreases-try_column : goal.decreases-try_column
-decreases-try_column l = rows l.n l.i
+decreases-try_column l = rows l.target.n l.c.row
 
 abbrev pub invariant-descend-loop-s : goal.invariant-descend-loop-s
-invariant-descend-loop-s l = Going l.n l.table l.zone l.fn.sets l.fn.cols l.i l.steps l.sets l.cols l.left l.s
+invariant-descend-loop-s l = Going l.target l.fn.sets l.fn.cols l.i l.steps l.sets l.cols l.left l.s

@@ -4,33 +4,35 @@ use mathlib.Core.Path.{refl}
 use mathlib.Core.Bool.{true}
 use mathlib.Core.List.{List}
 use lib.IntN.{ℤ}
-use Rattle.model.specs.Matrix.{Constraint}
+use Rattle.model.specs.Network.{Time}
 use Rattle.model.proofs.Selections.{chosen_at}
 use Rattle.decisions.specs.Decide.{lead, attains_first, first_constraints}
 use Rattle.decisions.proofs.FirstColumn.{first_fits}
 use Rattle.memory.specs.Wide.{bounds_in, times_in, Stored}
 use Rattle.memory.proofs.Toward.{Toward, Parts, toward_start, first_of}
 use Rattle.memory.proofs.Leaving.{given_up, onward, at_last}
+use Rattle.zones.specs.declared.Choice.{Choice}
+use Rattle.zones.specs.declared.Target.{Target}
 use Rattle.zones.specs.Inner.{Adding, led, attains_by, images}
-use Rattle.descent.specs.Rows.{RowReady}
+use Rattle.descent.specs.Rows.{added_by, RowReady}
 use Rattle.descent.proofs.add_row.Goals as goal
 
-module _ {n : ℕ} {part times zone : List ℤ} {cols : List ℕ} {i s : ℕ} (r : RowReady n part times zone cols i s) where
-  abbrev row : List Constraint
-  row = first_constraints n (times_in times) (bounds_in zone) cols i s
+module _ {t : Target ℤ} {part : List ℤ} {cols : List ℕ} {c : Choice} (r : RowReady t part cols c) where
+  abbrev a : List Time
+  a = times_in t.times.now
 
-  adds : Adding n times (times_in times) i s
-  adds = record { table = r.table; row = r.to_n; column = chosen_at r.from_one r.column }
+  adds : Adding t.n t.times.now a c.row c.column
+  adds = record { table = t.times_in; row = r.to_n; column = chosen_at r.from_one r.column }
 
-  whole : Toward n Stored (bounds_in part) row (bounds_in part) row
+  whole : Toward t.n Stored (bounds_in part) (added_by t cols c) (bounds_in part) (added_by t cols c)
   whole = toward_start (record {
-    few = r.source.few;
+    few = t.zone_in.few;
     closed = r.set;
-    fits = first_fits n (times_in times) (bounds_in zone) cols i s r.columns adds.column;
+    fits = first_fits t.n a (bounds_in t.zone.now) cols c.row c.column r.columns adds.column;
     fitting = r.fitting;
   }) refl
 
-  two : Parts row (attains_by true n (times_in times) i s) (images n (times_in times) (bounds_in zone) cols i s)
+  two : Parts (added_by t cols c) (attains_by true t.n a c.row c.column) (images t.n a (bounds_in t.zone.now) cols c.row c.column)
   unfolding first_constraints attains_first lead led
   two = record { is = refl }
 
@@ -41,7 +43,7 @@ pub keep_images-requires : goal.keep_images-requires
 keep_images-requires c =
     let r = c.requires in
     let attained = onward (two r) (whole r) c.attain.ensures c.if-attain.true in
-    record { taking = attained.taking; source = r.source; adds = adds r; cols_size = r.cols_size; columns = r.columns }
+    record { taking = attained.taking; adds = adds r; cols_size = r.cols_size; columns = r.columns }
 
 pub returns-then-attain : goal.returns-then-attain
 returns-then-attain c =

@@ -4,7 +4,7 @@ use Rattle.model.proofs.Selections.{time_held}
 use Rattle.lists.proofs.Taking.{taken_unfit, taken_last, taken_none, child_ready, shut_ready, taken_shut, taken_below, taken_noted}
 use Rattle.lists.proofs.Going.{entry_ready, going_start, going_ready, going_past, going_done, going_on, going_full}
 use Rattle.lists.proofs.+select_take_column.Goals as goal
-use Rattle.lists.proofs.+select_take_column.Goals.{select-then-holds_time+in_ok-so_far, select-else-holds_time}
+use Rattle.lists.proofs.+select_take_column.Goals.{select-then-holds_time+in_ok-take_column, select-else-holds_time}
 
 -- ---- a row
 pub select-loop-s-init : goal.select-loop-s-init
@@ -18,21 +18,21 @@ select-take_column-requires t c =
     let column = time_held c.loop-s.s (sym c.holds_time.ensures ∙ c.if-holds_time.true) (omega arith) (omega arith) in
     (omega (arith, c.decreases), going_ready c.requires c.loop-s.invariant column)
 
-pub select-returns-in_err-so_far : goal.select-returns-in_err-so_far
-select-returns-in_err-so_far t c =
+pub select-returns-in_err-take_column : goal.select-returns-in_err-take_column
+select-returns-in_err-take_column t c =
     let column = time_held c.loop-s.s (sym c.holds_time.ensures ∙ c.if-holds_time.true) (omega arith) (omega arith) in
-    rw c.from_residual.ensures (going_full c.requires c.loop-s.invariant column c.in_err-so_far.ensures)
+    rw c.from_residual.ensures (going_full c.requires c.loop-s.invariant column c.in_err-take_column.ensures)
 
 pub select-loop-s-preserved : goal.select-loop-s-preserved
 select-loop-s-preserved t c =
     let g = c.loop-s.invariant in
     elim c.if-holds_time.branch [
-      | select-then-holds_time+in_ok-so_far w ↦
+      | select-then-holds_time+in_ok-take_column w ↦
           let column = time_held c.loop-s.s (sym c.holds_time.ensures ∙ w.if-holds_time.true) (omega arith) (omega arith) in
-          rw (w.list-is, w.seen-is, w.path-is, w.so_far-is)
-          (going_on c.requires g column w.in_ok-so_far.ensures w.take_column.auto.list w.take_column.auto.seen)
+          rw (w.list-is, w.seen-is, w.path-is)
+          (going_on c.requires g column w.in_ok-take_column.ensures w.take_column.auto.list w.take_column.auto.seen)
       | select-else-holds_time w ↦
-          rw (w.list-is, w.seen-is, w.path-is, w.so_far-is)
+          rw (w.list-is, w.seen-is, w.path-is)
           (going_past c.requires g (omega arith) (sym c.holds_time.ensures ∙ w.if-holds_time.false))
     ]
 
@@ -46,7 +46,7 @@ take_column-returns-then-unfit t c = taken_unfit c.requires (c.unfit.ensures c.i
 pub take_column-returns-then-i-pull : goal.take_column-returns-then-i-pull
 take_column-returns-then-i-pull t c =
     let q = rw c.if-i-pull.true at c.requires in
-    rw c.if-i-pull.true (taken_last q c.put_last.ensures c.put_last.auto.seen)
+    rw c.if-i-pull.true (taken_last q (rw c.if-i-pull.true at c.put_last.ensures) c.put_last.auto.seen)
 
 pub take_column-returns-then-not-fresh : goal.take_column-returns-then-not-fresh
 take_column-returns-then-not-fresh t c = taken_none c.requires c.fresh.auto.seen c.fresh.ensures c.if-not-fresh.true
@@ -64,11 +64,11 @@ take_column-select-requires t c = (
   child_ready c.requires c.fresh.auto.seen c.fresh.ensures c.if-not-fresh.false c.if-i-pull.false,
 )
 
-pub take_column-returns-in_err-more : goal.take_column-returns-in_err-more
-take_column-returns-in_err-more t c =
-    rw c.from_residual.ensures (taken_below c.requires c.fresh.auto.seen c.fresh.ensures c.if-not-fresh.false c.in_err-more.ensures)
+pub take_column-returns-in_err-select : goal.take_column-returns-in_err-select
+take_column-returns-in_err-select t c =
+    rw c.from_residual.ensures (taken_below c.requires c.fresh.auto.seen c.fresh.ensures c.if-not-fresh.false c.in_err-select.ensures)
 
 pub take_column-returns : goal.take_column-returns
 take_column-returns t c =
-    rw (c.note.ensures.0, c.note.ensures.1)
-    (taken_noted c.requires c.fresh.auto.seen c.fresh.ensures c.if-not-fresh.false c.in_ok-more.ensures)
+    rw (c.note.ensures.0, c.note.ensures.1, c.note.ensures.2)
+    (taken_noted c.requires c.fresh.auto.seen c.fresh.ensures c.if-not-fresh.false c.in_ok-select.ensures)

@@ -8,12 +8,12 @@ abbrev steps : ℕ → ℕ → ℕ
 steps n i = (suc n - i) + (suc n - i)
 
 abbrev pub decreases-select : goal.decreases-select
-decreases-select l = suc (steps l.pull.n l.i)
+decreases-select l = suc (steps l.pull.target.n l.i)
 
 abbrev pub decreases-take_column : goal.decreases-take_column
-decreases-take_column l = steps l.pull.n l.choice.row
+decreases-take_column l = steps l.pull.target.n l.choice.row
 
 abbrev pub invariant-select-loop-s : goal.invariant-select-loop-s
 invariant-select-loop-s l =
-    Going l.pull.n l.count l.fn.list l.pull.times.now l.pull.zone.now l.fn.seen l.fn.path.counts l.fn.path.cols l.i l.pull.capacity
-    l.list l.seen l.path.counts l.path.cols l.so_far l.s
+    Going l.pull.target.n l.fn.path.kept l.fn.list l.pull.target.times.now l.pull.target.zone.now l.fn.seen l.fn.path.counts l.fn.path.cols l.i l.pull.capacity
+    l.list l.seen l.path.counts l.path.cols l.path.kept l.s

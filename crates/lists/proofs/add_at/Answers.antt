@@ -12,13 +12,13 @@ pub add_row-requires : goal.add_row-requires
 unfolding zone_at
 add_row-requires c =
     rw c.zone_size-size.ensures
-    (row_ready c.requires.selecting c.requires.row c.requires.column (ap bounds_in (lent_at (zone_size c.args.pull.n) c.args.k c.args.list.now)))
+    (row_ready c.requires.selecting c.requires.row c.requires.column (ap bounds_in (lent_at (zone_size c.args.target.n) c.args.k c.args.list.now)))
 
 pub returns : goal.returns
 unfolding zone_at
 returns c =
     let a = c.args in
-    let size = zone_size a.pull.n in
+    let size = zone_size a.target.n in
     let out = c.add_row.new.part in
     let lent = lent_at size a.k a.list.now in
     let fits : length out ≡ size = (rw (c.zone_size-size.ensures, lent) at c.add_row.auto.part) ∙ length_numbers size a.list.now a.k c.requires.inside in

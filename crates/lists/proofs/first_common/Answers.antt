@@ -1,83 +1,86 @@
 -- Zone by zone of the list at base, to the first that has something in common with the pattern.
 use native.Mathlib.Omega.{arith}
-use Prim.Native.Nat.{◌+◌, ◌*◌, ◌≤◌}
+use native.Mathlib.Nat.{suc-mul}
+use Prim.Native.Nat.{suc}
 use mathlib.Core.Path.{refl, ◌∙◌}
-use lib.ListN.{length}
+use Rattle.std.specs.Slice.Iter.{chunks_exact_rest}
 use Rattle.model.specs.Search.{common}
 use Rattle.memory.specs.Numbers.{bounds_in}
 use Rattle.memory.specs.Matrices.{Left}
-use Rattle.memory.proofs.Places.{zone_fits}
 use Rattle.lists.specs.Lists.{found_by}
-use Rattle.lists.proofs.Fronts.{front_long, front_room, front_is, loaded}
+use Rattle.lists.proofs.Fronts.{copied_is, out_long, out_is}
 use Rattle.lists.proofs.Starting.{common_ready}
-use Rattle.lists.proofs.Looking.{looking_start, looking_done, zone_place, zone_joins, found_ready, looking_found, looking_on}
+use Rattle.lists.proofs.Looking.{looking_start, looking_done, next_joins, found_ready, looking_found, looking_on}
 use Rattle.lists.proofs.first_common.Goals as goal
 
-pub loop-k-init : goal.loop-k-init
-loop-k-init c = looking_start c.args.n c.args.list.base c.args.list.count c.args.work.now c.args.pattern.now
+pub loop-part-init : goal.loop-part-init
+loop-part-init c =
+    let s = c.zone_size-size.ensures in
+    let made = c.chunks_exact-part-items.ensures in
+    rw (c.into_iter-part-iterator.ensures.into_iter_gives, made.size, made.rest, c.numbers.ensures, s)
+    (omega (arith, suc-mul c.args.n (suc c.args.n)), tt, refl, looking_start c.requires)
 
 pub common-requires : goal.common-requires
 common-requires c =
-    let a = c.args in
-    let size = c.zone_size-size.result in
-    let there : a.list.base + c.loop-k.k * size + size ≤ length a.work.now = rw c.zone_size-size.ensures (zone_place c.loop-k-test.true c.requires) in
-    let room : size ≤ length c.loop-k.zone
-    = omega (arith, zone_fits c.requires.meets.limits.departures, c.zone_size-size.ensures, c.loop-k-test.array_long) in
-    let again = front_is _ _ room c.copy_from_slice.new.self c.copy_from_slice.auto.self in
-    let is = loaded size a.list.base c.loop-k.k a.work.now there a.n c.zone_size-size.ensures c.copy_from_slice.ensures.after in
-    rw again (common_ready _ c.requires.meets (zone_joins c.loop-k-test.true c.requires is))
+    let s = c.zone_size-size.ensures in
+    let i = c.loop-part.invariant in
+    let step = c.in-Some.ensures.steps.1 in
+    let fits = step.1 ∙ i.2 in
+    let joins = next_joins i.3 c.in-Some.part.now (chunks_exact_rest c.next.new.self) step.0 fits in
+    rw (s, copied_is c.copy_from_slice.ensures.after fits c.loop-part.zone) (common_ready _ c.requires.meets joins)
 
 pub start-requires : goal.start-requires
 unfolding common
 start-requires c =
-    let a = c.args in
-    let size = c.zone_size-size.result in
-    let there : a.list.base + c.loop-k.k * size + size ≤ length a.work.now = rw c.zone_size-size.ensures (zone_place c.loop-k-test.true c.requires) in
-    let room : size ≤ length c.loop-k.zone
-    = omega (arith, zone_fits c.requires.meets.limits.departures, c.zone_size-size.ensures, c.loop-k-test.array_long) in
-    let again = front_is _ _ room c.copy_from_slice.new.self c.copy_from_slice.auto.self in
-    let is = loaded size a.list.base c.loop-k.k a.work.now there a.n c.zone_size-size.ensures c.copy_from_slice.ensures.after in
-    let left : Left (common a.n (bounds_in c.copy_from_slice.new.self) (bounds_in a.pattern.now)) c.common.result (bounds_in c.common.new.zone)
-    = rw again at c.common.ensures in
-    let room_left = front_room _ _ room c.copy_from_slice.new.self c.copy_from_slice.auto.self in
-    let long = c.common.auto.zone ∙ front_long _ _ room_left ∙ c.zone_size-size.ensures in
-    rw (front_is _ _ room_left c.common.new.zone c.common.auto.zone)
-    (found_ready c.loop-k-test.true c.loop-k.invariant is _ left c.requires long c.if-common.true)
+    let s = c.zone_size-size.ensures in
+    let i = c.loop-part.invariant in
+    let step = c.in-Some.ensures.steps.1 in
+    let fits = step.1 ∙ i.2 in
+    let after = c.copy_from_slice.ensures.after in
+    let same = rw s at c.common.auto.zone in
+    let left : Left (common c.args.n (bounds_in c.in-Some.part.now) (bounds_in c.args.pattern.now)) c.common.result (bounds_in c.common.new.zone)
+    = rw (s, copied_is after fits c.loop-part.zone) at c.common.ensures in
+    rw (s, out_is after fits c.loop-part.zone _ same)
+    (found_ready i.3 c.in-Some.part.now (chunks_exact_rest c.next.new.self) step.0 fits _ left c.requires (out_long after fits c.loop-part.zone _ same)
+    c.if-common.true)
 
 pub returns-then-common : goal.returns-then-common
 unfolding common found_by
 returns-then-common c =
-    let a = c.args in
-    let size = c.zone_size-size.result in
-    let there : a.list.base + c.loop-k.k * size + size ≤ length a.work.now = rw c.zone_size-size.ensures (zone_place c.loop-k-test.true c.requires) in
-    let room : size ≤ length c.loop-k.zone
-    = omega (arith, zone_fits c.requires.meets.limits.departures, c.zone_size-size.ensures, c.loop-k-test.array_long) in
-    let again = front_is _ _ room c.copy_from_slice.new.self c.copy_from_slice.auto.self in
-    let is = loaded size a.list.base c.loop-k.k a.work.now there a.n c.zone_size-size.ensures c.copy_from_slice.ensures.after in
-    let left : Left (common a.n (bounds_in c.copy_from_slice.new.self) (bounds_in a.pattern.now)) c.common.result (bounds_in c.common.new.zone)
-    = rw again at c.common.ensures in
-    let room_left = front_room _ _ room c.copy_from_slice.new.self c.copy_from_slice.auto.self in
+    let s = c.zone_size-size.ensures in
+    let i = c.loop-part.invariant in
+    let step = c.in-Some.ensures.steps.1 in
+    let fits = step.1 ∙ i.2 in
+    let after = c.copy_from_slice.ensures.after in
+    let same = rw s at c.common.auto.zone in
+    let left : Left (common c.args.n (bounds_in c.in-Some.part.now) (bounds_in c.args.pattern.now)) c.common.result (bounds_in c.common.new.zone)
+    = rw (s, copied_is after fits c.loop-part.zone) at c.common.ensures in
     rw (
-      looking_found c.loop-k-test.true c.loop-k.invariant is _ left c.if-common.true,
+      looking_found i.3 c.in-Some.part.now (chunks_exact_rest c.next.new.self) step.0 fits _ left c.if-common.true,
       c.start.ensures,
-      front_is _ _ room_left c.common.new.zone c.common.auto.zone,
+      s,
+      out_is after fits c.loop-part.zone _ same,
     )
     refl
 
-pub loop-k-preserved : goal.loop-k-preserved
+pub loop-part-preserved : goal.loop-part-preserved
 unfolding common
-loop-k-preserved c =
-    let a = c.args in
-    let size = c.zone_size-size.result in
-    let there : a.list.base + c.loop-k.k * size + size ≤ length a.work.now = rw c.zone_size-size.ensures (zone_place c.loop-k-test.true c.requires) in
-    let room : size ≤ length c.loop-k.zone
-    = omega (arith, zone_fits c.requires.meets.limits.departures, c.zone_size-size.ensures, c.loop-k-test.array_long) in
-    let again = front_is _ _ room c.copy_from_slice.new.self c.copy_from_slice.auto.self in
-    let is = loaded size a.list.base c.loop-k.k a.work.now there a.n c.zone_size-size.ensures c.copy_from_slice.ensures.after in
-    let left : Left (common a.n (bounds_in c.copy_from_slice.new.self) (bounds_in a.pattern.now)) c.common.result (bounds_in c.common.new.zone)
-    = rw again at c.common.ensures in
-    looking_on c.loop-k-test.true c.loop-k.invariant is _ left c.if-common.false
+loop-part-preserved c =
+    let s = c.zone_size-size.ensures in
+    let i = c.loop-part.invariant in
+    let step = c.in-Some.ensures.steps.1 in
+    let fits = step.1 ∙ i.2 in
+    let left : Left (common c.args.n (bounds_in c.in-Some.part.now) (bounds_in c.args.pattern.now)) c.common.result (bounds_in c.common.new.zone)
+    = rw (s, copied_is c.copy_from_slice.ensures.after fits c.loop-part.zone) at c.common.ensures in
+    rw (c.in-Some.ensures.steps.0) (
+      i.0,
+      tt,
+      i.2,
+      looking_on i.3 c.in-Some.part.now (chunks_exact_rest c.next.new.self) step.0 fits _ left c.if-common.false,
+    )
 
 pub returns : goal.returns
 unfolding found_by
-returns c = rw (looking_done c.loop-k.invariant c.loop-k-test.false) refl
+returns c =
+    let i = c.loop-part.invariant in
+    rw (looking_done i.3 (rw i.2 at c.in-None.ensures.steps.1.0)) refl

@@ -1,7 +1,7 @@
 -- A selection under way: where its sets stand, and how one more is built.
 use Prim.Native.Nat.{ℕ, ◌+◌, ◌*◌, ◌-◌, ◌≤◌, ◌<◌}
 use native.Mathlib.Omega.{arith}
-use mathlib.Core.Path.{◌≡◌}
+use mathlib.Core.Path.{◌≡◌, ap}
 use mathlib.Core.Bool.{Bool}
 use mathlib.Core.List.{List}
 use lib.IntN.{ℤ}
@@ -15,8 +15,7 @@ use Rattle.lists.specs.Lists.{zone_at}
 use Rattle.lists.specs.Met.{free_at}
 use Rattle.lists.specs.Selecting.{with_column}
 use Rattle.lists.specs.Inner.{PlacedAt, AddReady, parent_in, Underway, left_of}
-use Rattle.memory.proofs.Side.{length_numbers, stored_else, else_trans}
-use Rattle.lists.proofs.places.Zones.{stored_at}
+use Rattle.memory.proofs.Side.{length_numbers, stored_else, stored_numbers, else_trans}
 use Rattle.lists.proofs.met.Seen.{free_fits, free_later}
 
 module _ {n : ℕ} {times zone seen : List ℤ} {counts cols : List ℕ} {i : ℕ} (u : Underway n times zone seen counts cols i) where
@@ -27,29 +26,32 @@ module _ {n : ℕ} {times zone seen : List ℤ} {counts cols : List ℕ} {i : �
   pub here_fits : free_at n counts i * zone_size n + zone_size n ≤ length seen
   here_fits = free_fits u.tables u.row
 
+  pub here_long : (seen' : List ℤ) → length seen' ≡ length seen → length (numbers_at (zone_size n) seen' (free_at n counts i)) ≡ zone_size n
+  here_long seen' e = length_numbers (zone_size n) seen' (free_at n counts i) (rw e here_fits)
+
   pub parent_fits : free_at n counts (i - 1) * zone_size n + zone_size n ≤ length seen
   parent_fits = free_fits u.tables (omega (arith, u.row))
 
   pub parent_before : free_at n counts (i - 1) < free_at n counts i
   parent_before = free_later u.tables u.selecting.before.from_one
 
+  abbrev parent : List ℤ
+  parent = numbers_at (zone_size n) seen (free_at n counts (i - 1))
+
+  pub parent_long : length parent ≡ zone_size n
+  parent_long = length_numbers (zone_size n) seen (free_at n counts (i - 1)) parent_fits
+
   -- that set, copied to place k of a list
   module _ (list : List ℤ) (k : ℕ) (inside : k * zone_size n + zone_size n ≤ length list) where
-    abbrev parent : List ℤ
-    parent = numbers_at (zone_size n) seen (free_at n counts (i - 1))
-
     abbrev copied : List ℤ
     copied = paste list (k * zone_size n) parent (zone_size n)
 
-    long : length parent ≡ zone_size n
-    long = length_numbers (zone_size n) seen (free_at n counts (i - 1)) parent_fits
-
     pub copied_else : Elsewhere (zone_size n) k list copied
-    copied_else = stored_else (zone_size n) k list parent long inside
+    copied_else = stored_else (zone_size n) k list parent parent_long inside
 
     pub copied_at : zone_at (zone_size n) copied k ≡ parent_in n seen counts i
     unfolding zone_at
-    copied_at = stored_at (zone_size n) k list parent long inside
+    copied_at = ap bounds_in (stored_numbers (zone_size n) k list parent parent_long inside)
 
     -- and what a column leaves of it there
     pub added_left : (s : ℕ) {list' : List ℤ} {r : Bool} {list'' : List ℤ} → list' ≡ copied

@@ -8,7 +8,6 @@ use mathlib.Core.Bool.{Bool, true, false, not, cond}
 use mathlib.Core.List.{List}
 use mathlib.Core.Option.{Option, none, some}
 use lib.IntN.{ℤ}
-use borrow.Author.Tests.{not-true, not-false}
 use lib.ListN.{length, get_or}
 use Rattle.ints.proofs.Integers.{impossible}
 use Rattle.model.specs.Sizes.{zone_size}
@@ -62,12 +61,12 @@ module _ (zs : List Matrix) where
   unmet_gone (kept h) f = impossible cc
 
   module _ {size k : ℕ} {o : Option Matrix} {before : List ℤ} {r : Bool} {after : List ℤ} (p : PlacedAt size k o before r after) where
-    pub placed_none : not r ≡ true → PlacedAt size k (unmet zs o) before false after
-    placed_none e = record { elsewhere = p.elsewhere; left = unmet_gone p.left (not-true r e) }
+    pub placed_none : r ≡ false → PlacedAt size k (unmet zs o) before r after
+    placed_none e = record { elsewhere = p.elsewhere; left = rw e (unmet_gone p.left e) }
 
-    pub placed_some : not r ≡ false → (t : Bool) → t ≡ any_of (same_matrix (zone_at size after k)) zs → PlacedAt size k (unmet zs o) before (not t) after
+    pub placed_some : r ≡ true → (t : Bool) → t ≡ any_of (same_matrix (zone_at size after k)) zs → PlacedAt size k (unmet zs o) before (not t) after
     unfolding zone_at
-    placed_some e t m = record { elsewhere = p.elsewhere; left = unmet_left p.left (not-false r e) t m }
+    placed_some e t m = record { elsewhere = p.elsewhere; left = unmet_left p.left e t m }
 
 -- ---- the table has a place for each
 -- that of row i lies before those of the rows below

@@ -1,57 +1,54 @@
 -- The set of the row before is copied to the place of the next zone, which then takes in what the row adds.
 use native.Mathlib.Omega.{arith}
-use Prim.Native.Nat.{◌+◌, ◌*◌, ◌-◌, ◌≤◌}
-use mathlib.Core.Path.{◌≡◌, ap}
-use mathlib.Core.Bool.{not}
-use lib.ListN.{length}
+use Prim.Native.Nat.{◌-◌}
+use mathlib.Core.Path.{◌≡◌, ◌∙◌}
 use Rattle.model.specs.Sizes.{zone_size}
-use Rattle.lists.specs.Lists.{list_in}
-use Rattle.lists.specs.Met.{free_at}
-use Rattle.memory.proofs.Side.{length_numbers, lent_at}
+use Rattle.lists.specs.Lists.{zone_at, list_in}
+use Rattle.memory.proofs.Side.{length_numbers}
 use Rattle.lists.proofs.places.Zones.{list_same}
 use Rattle.lists.proofs.met.Seen.{placed_none, placed_some}
-use Rattle.lists.proofs.met.Growing.{parent_fits, copied_at, add_ready, added_left}
+use Rattle.lists.proofs.met.Growing.{parent_fits, parent_long, copied_at, add_ready, added_left}
 use Rattle.lists.proofs.next_zone.Goals as goal
 
-pub slice_bounds-store-end : goal.slice_bounds-store-end
-slice_bounds-store-end c = rw (c.zone_size-size.ensures, c.free.ensures) (parent_fits c.requires.0.ready)
+pub at-requires : goal.at-requires
+at-requires c = rw (c.zone_size-size.ensures, c.free-parent.ensures) (parent_fits c.requires.0.ready)
 
 pub store-requires : goal.store-requires
-store-requires c =
-    let size = c.zone_size-size.result in
-    let seen = c.args.seen.now in
-    let inside : c.free.result * size + size ≤ length seen = rw (c.zone_size-size.ensures, c.free.ensures) (parent_fits c.requires.0.ready) in
-    (rw (lent_at size c.free.result seen) (length_numbers size seen c.free.result inside), rw c.zone_size-size.ensures c.requires.1)
+store-requires c = rw (c.at.ensures, c.zone_size-size.ensures, c.free-parent.ensures, parent_long c.requires.0.ready) c.requires.1
 
 pub add_at-requires : goal.add_at-requires
 add_at-requires c =
     let a = c.args in
     let u = c.requires.0.ready in
-    let lent = lent_at (zone_size a.pull.n) (free_at a.pull.n a.path.now.counts (a.pull.n - 1)) a.seen.now in
-    let copied = rw (c.zone_size-size.ensures, c.free.ensures, lent) at c.store.ensures in
-    add_ready u a.count (rw c.store.auto.list c.requires.1) (rw copied (copied_at u a.list.now a.count c.requires.1)) c.requires.0.column
+    let copied = rw (c.at.ensures, c.zone_size-size.ensures, c.free-parent.ensures, parent_long u) at c.store.ensures in
+    add_ready u a.path.now.kept (rw c.store.auto.list c.requires.1) (rw copied (copied_at u a.list.now a.path.now.kept c.requires.1)) c.requires.0.column
 
-pub returns-then-not-add_at : goal.returns-then-not-add_at
-returns-then-not-add_at c =
+pub at-requires-then-add_at : goal.at-requires-then-add_at
+at-requires-then-add_at c = rw (c.zone_size-size.ensures, c.add_at.auto.list, c.store.auto.list) c.requires.1
+
+pub has-requires : goal.has-requires
+has-requires c =
+    let a = c.args in
+    let same = c.add_at.auto.list ∙ c.store.auto.list in
+    let long = length_numbers (zone_size a.pull.target.n) c.add_at.new.list a.path.now.kept (rw same c.requires.1) in
+    rw (c.at-then-add_at.ensures, c.zone_size-size.ensures, long) (omega arith, omega arith)
+
+pub returns-then-add_at : goal.returns-then-add_at
+unfolding list_in zone_at
+returns-then-add_at c =
     let a = c.args in
     let u = c.requires.0.ready in
-    let lent = lent_at (zone_size a.pull.n) (free_at a.pull.n a.path.now.counts (a.pull.n - 1)) a.seen.now in
-    let copied = rw (c.zone_size-size.ensures, c.free.ensures, lent) at c.store.ensures in
-    placed_none _ (added_left u a.list.now a.count c.requires.1 a.s copied c.add_at.ensures) (ap not c.if-not-add_at.true)
+    let same = c.add_at.auto.list ∙ c.store.auto.list in
+    let long = length_numbers (zone_size a.pull.target.n) c.add_at.new.list a.path.now.kept (rw same c.requires.1) in
+    let copied = rw (c.at.ensures, c.zone_size-size.ensures, c.free-parent.ensures, parent_long u) at c.store.ensures in
+    let left = added_left u a.list.now a.path.now.kept c.requires.1 a.choice.column copied c.add_at.ensures in
+    let all : a.path.now.kept - 0 ≡ a.path.now.kept = omega arith in
+    placed_some _ left c.if-add_at.true c.has.result
+    (rw (c.at-then-add_at.ensures, c.zone_size-size.ensures, long, all, list_same left.elsewhere) at c.has.ensures)
 
-pub has_at-requires : goal.has_at-requires
-has_at-requires c =
-    let inside = c.requires.1 in
-    rw (c.zone_size-size.ensures, c.add_at.auto.list, c.store.auto.list) (omega arith, omega arith, inside)
-
-pub returns : goal.returns
-unfolding list_in
-returns c =
+pub returns-else-add_at : goal.returns-else-add_at
+returns-else-add_at c =
     let a = c.args in
     let u = c.requires.0.ready in
-    let lent = lent_at (zone_size a.pull.n) (free_at a.pull.n a.path.now.counts (a.pull.n - 1)) a.seen.now in
-    let copied = rw (c.zone_size-size.ensures, c.free.ensures, lent) at c.store.ensures in
-    let left = added_left u a.list.now a.count c.requires.1 a.s copied c.add_at.ensures in
-    let all : a.count - 0 ≡ a.count = omega arith in
-    placed_some _ left (ap not c.if-not-add_at.false) c.has_at.result
-    (rw (c.zone_size-size.ensures, all, list_same left.elsewhere) at c.has_at.ensures)
+    let copied = rw (c.at.ensures, c.zone_size-size.ensures, c.free-parent.ensures, parent_long u) at c.store.ensures in
+    placed_none _ (added_left u a.list.now a.path.now.kept c.requires.1 a.choice.column copied c.add_at.ensures) c.if-add_at.false

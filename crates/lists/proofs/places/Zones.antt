@@ -1,5 +1,5 @@
 -- Zones at places of a list: when two are the same, and what changes where one place does.
-use Prim.Native.Nat.{ℕ, zero, suc, ◌+◌, ◌*◌, ◌-◌, ◌≤◌, ◌<◌}
+use Prim.Native.Nat.{ℕ, zero, suc, ◌+◌, ◌*◌, ◌≤◌, ◌<◌}
 use native.Mathlib.Omega.{arith}
 use native.Mathlib.Decide.{dec_lt, ℕ_discrete}
 use native.Mathlib.Nat.{mul-le-mul_right, suc-mul}
@@ -9,7 +9,6 @@ use mathlib.Core.List.{List, [], ◌∷◌, ◌++◌}
 use lib.IntN.{ℤ, pos}
 use lib.ListN.{length, take, drop, get_or}
 use lib.Seq.{get_or-take, get_or-drop, ext_get_or}
-use lib.Seq.{paste}
 use Rattle.std.proofs.Common.{Option, Some, None, MatchOption}
 use Rattle.std.specs.List.{zip, AllWithin, HoldsAt}
 use Rattle.std.proofs.lemmas.Slice.Zip.{length-zip, get_or-zip}
@@ -23,9 +22,9 @@ use Rattle.memory.specs.Numbers.{none_in, of_halves, bound_in, bounds_in}
 use Rattle.memory.proofs.InHalves.{same_number, not_none}
 use Rattle.memory.proofs.Places.{get_d_bounds}
 use Rattle.memory.specs.Side.{numbers_at, Elsewhere}
-use Rattle.memory.proofs.Side.{length_numbers, lent_at, part_of_lem, beyond_same, stored_numbers}
+use Rattle.memory.proofs.Side.{length_numbers, part_of_lem, beyond_same}
 use Rattle.lists.specs.Lists.{zone_at, list_in}
-use Rattle.lists.specs.Comparing.{Comparing, Other}
+use Rattle.lists.specs.Comparing.{Other}
 
 -- ---- equal numbers
 -- equal bounds are equal numbers
@@ -48,27 +47,25 @@ abbrev pub Unlike : ℤ × ℤ → Type 0
 Unlike p = p.0 ≡ p.1 → ⊥
 
 -- ---- the numbers of a zone against those at place k
--- the first p are the same
-abbrev pub SameUpto : ℕ → List ℤ → ℕ → List ℤ → ℕ → Type 0
-SameUpto size list k zone p = (q : ℕ) → q < p → get_or zone q (pos 0) ≡ get_or list (k * size + q) (pos 0)
+module _ (list : List ℤ) (k : ℕ) (zone : List ℤ) (inside : k * length zone + length zone ≤ length list) where
+  abbrev size : ℕ
+  size = length zone
 
-module _ {list : List ℤ} {k : ℕ} {zone : List ℤ} {size : ℕ} (c : Comparing list k zone size) where
   abbrev there : List ℤ
   there = numbers_at size list k
 
   there_long : length there ≡ size
-  there_long = length_numbers size list k c.inside
+  there_long = length_numbers size list k inside
 
   get_d_there : (p : ℕ) → p < size → get_or there p (pos 0) ≡ get_or list (k * size + p) (pos 0)
   get_d_there p h = get_or-take size (drop (k * size) list) p (pos 0) h ∙ get_or-drop (k * size) list p (pos 0)
 
-  pub all_same : SameUpto size list k zone size → same_matrix (bounds_in zone) (zone_at size list k) ≡ true
+  all_same : ((q : ℕ) → q < size → get_or zone q (pos 0) ≡ get_or list (k * size + q) (pos 0)) → same_matrix (bounds_in zone) (zone_at size list k) ≡ true
   unfolding zone_at
   all_same same =
-      let fits = c.fits in
-      let is : zone ≡ there = ext_get_or (pos 0) zone there (fits ∙ sym there_long) (λ q u.
+      let is : zone ≡ there = ext_get_or (pos 0) zone there (sym there_long) (λ q u.
       same q (omega arith) ∙ sym (get_d_there q (omega arith))) in
-      rw is (same_matrix_refl (bounds_in there))
+      ap (λ (l : List ℤ). same_matrix (bounds_in zone) (bounds_in l)) (sym is) ∙ same_matrix_refl (bounds_in zone)
 
   pub one_other : (p : ℕ) → p < size → (get_or zone p (pos 0) ≡ get_or list (k * size + p) (pos 0) → ⊥)
       → same_matrix (bounds_in zone) (zone_at size list k) ≡ false
@@ -78,20 +75,16 @@ module _ {list : List ℤ} {k : ℕ} {zone : List ℤ} {size : ℕ} (c : Compari
       go : (t : Bool) → same_matrix (bounds_in zone) (bounds_in there) ≡ t → t ≡ false
       go false e = refl
       go true e =
-          let fits = c.fits in
           let bound = ap (λ (m : Matrix). get_or m p B.Bound.none) (same_matrix_true _ _ e) in
           let in_memory = sym (get_d_bounds zone p (omega arith)) ∙ bound ∙ get_d_bounds there p (omega (arith, there_long)) in
           absurd (other (bound_in_injective _ _ in_memory ∙ get_d_there p h))
 
   -- by the first pair of numbers that are not the same
   pairs_long : length (zip zone there) ≡ size
-  pairs_long =
-      let fits = c.fits in
-      length-zip zone there ∙ omega (arith, there_long)
+  pairs_long = length-zip zone there ∙ omega (arith, there_long)
 
   pair_at : (p : ℕ) → p < size → get_or (zip zone there) p (pos 0, pos 0) ≡ (get_or zone p (pos 0), get_or list (k * size + p) (pos 0))
   pair_at p h =
-      let fits = c.fits in
       get_or-zip zone there p (pos 0, pos 0) (omega arith) (omega (arith, there_long)) ∙ ap (λ (b : ℤ). (get_or zone p (pos 0), b)) (get_d_there p h)
 
   -- what position tells of the pairs
@@ -99,16 +92,16 @@ module _ {list : List ℤ} {k : ℕ} {zone : List ℤ} {size : ℕ} (c : Compari
   First pairs r = MatchOption r (AllWithin Alike pairs 0 (length pairs))
       (λ p. (p < length pairs) × HoldsAt Unlike pairs p × AllWithin Alike pairs 0 p)
 
-  first_pair : (r : Option ℕ) → First (zip zone there) r → Other size list k zone r
+  first_pair : (r : Option ℕ) → First (zip zone there) r → Other list k zone r
   first_pair None same =
       all_same (λ q h. rw (pair_at q h) at (same q (pos 0, pos 0) (omega arith) (omega (arith, pairs_long))))
   first_pair (Some p) (low, other, _) =
       let h : p < size = omega (arith, pairs_long) in
       (h, one_other p h (rw (pair_at p h) at (other (pos 0, pos 0))))
 
-  -- the same, with the numbers of place k as a slice hands them
-  pub first_lent : (r : Option ℕ) → First (zip zone (take (k * size + size - k * size) (drop (k * size) list))) r → Other size list k zone r
-  first_lent r first = first_pair r (rw (lent_at size k list) at first)
+  -- the same, with a part that is lent
+  pub first_lent : {part : List ℤ} → part ≡ there → (r : Option ℕ) → First (zip zone part) r → Other list k zone r
+  first_lent e r first = first_pair r (rw e at first)
 
 -- one of them passes the test
 pub any_found : {X : Type 0} (t : X → Bool) (f : ℕ → X) (m first k : ℕ) → first ≤ k → k < m + first → t (f k) ≡ true → any_of t (tabulate m first f) ≡ true
@@ -146,9 +139,3 @@ module _ {size k : ℕ} {before after : List ℤ} (e : Elsewhere size k before a
       let s : k + 1 ≡ suc k = omega arith in
       let z : 0 + k ≡ k = omega arith in
       rw s (sym (tabulate_snoc k 0 (zone_at size after)) ∙ ap₂ (λ (l : List Matrix) (m : Matrix). l ++ (m ∷ [])) list_same (ap (zone_at size after) z))
-
--- ---- a store at place k
-pub stored_at : (size k : ℕ) (list zone : List ℤ) → length zone ≡ size → k * size + size ≤ length list
-    → zone_at size (paste list (k * size) zone size) k ≡ bounds_in zone
-unfolding zone_at
-stored_at size k list zone fits inside = ap bounds_in (stored_numbers size k list zone fits inside)

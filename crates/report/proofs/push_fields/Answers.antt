@@ -9,10 +9,13 @@ pub loop-time-init : goal.loop-time-init
 loop-time-init c = rw fields_none (record { text = sym (append-nil c.args.text.now); short = omega arith })
 
 pub push_seconds-requires : goal.push_seconds-requires
-push_seconds-requires c h =
+push_seconds-requires c =
     let before = c.loop-time.invariant in
-    let time = get_or c.args.times.now c.loop-time.time-index (seconds (pos 0)) in
-    rw (c.push.ensures, before.text) (simp length-append (omega (arith, c.requires, before.short, c.loop-time-test.true, signed_short time.0 h)))
+    let time = get_or c.args.times.now c.loop-time.time-index (seconds (pos 0)) in (
+      omega arith,
+      λ h.
+          rw (c.push.ensures, before.text) (simp length-append (omega (arith, c.requires, before.short, c.loop-time-test.true, signed_short time.0 h))),
+    )
 
 pub loop-time-preserved : goal.loop-time-preserved
 loop-time-preserved c =

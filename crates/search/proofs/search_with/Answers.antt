@@ -3,6 +3,8 @@ use native.Mathlib.Omega.{arith}
 use native.Mathlib.Numerals.{add-one}
 use Prim.Native.Nat.{◌≤◌}
 use mathlib.Core.Path.{refl, sym, ap, ◌∙◌}
+use mathlib.Core.Bool.{true, false}
+use Rattle.std.specs.Int.{from_bool}
 use Rattle.model.specs.Answers.{answered}
 use Rattle.model.specs.Search.{lists}
 use Rattle.search.specs.Searching.{past_by}
@@ -12,13 +14,14 @@ use Rattle.search.proofs.Searching as search
 use Rattle.search.proofs.search_with.Goals as goal
 use Rattle.search.proofs.search_with.Goals.{else-loop-k-test, then-loop-k-test+then-list-eq0}
 
-pub first_list-count-requires : goal.first_list-count-requires
-first_list-count-requires c = let q = c.requires.0 in (target_meets q, zone_room q)
+pub first_list-requires : goal.first_list-requires
+first_list-requires c = let q = c.requires.0 in (target_meets q, zone_room q)
 
 pub loop-k-init : goal.loop-k-init
 unfolding lists
 loop-k-init c =
-    begun c.requires.0 c.first_list-count.auto.work c.first_list-count.ensures.list c.first_list-count.ensures.few
+    begun c.requires.0 c.first_list.auto.work (rw c.from-count.ensures c.first_list.ensures.list)
+    (rw c.from-count.ensures (elim c.first_list.result as (λ b. from_bool b ≤ 1) [ true ↦ omega arith | false ↦ omega arith ]))
 
 pub next_list-requires : goal.next_list-requires
 next_list-requires c =

@@ -30,25 +30,25 @@ module _ {S n : ℕ} {a : List Time} {i s : ℕ} (first : Bool) (j : ℕ) {c by 
 
 pub slack-limit-requires : goal.slack-limit-requires
 slack-limit-requires g c =
-    small_mono (omega (arith, g.met.T.Stored.room)) (near c.args.first c.loop-j.j c.chosen-c.ensures c.lead.ensures c.time_at.ensures)
+    small_mono (omega (arith, g.met.T.Stored.room)) (near c.args.first c.loop-j.j c.chosen-added.ensures c.lead.ensures c.time_at.ensures)
 
 pub take_in-requires : goal.take_in-requires
 take_in-requires g c =
-    let e = c.slack-limit.ensures ∙ limit c.args.first c.loop-j.j c.chosen-c.ensures c.lead.ensures c.time_at.ensures in
+    let e = c.slack-limit.ensures ∙ limit c.args.first c.loop-j.j c.chosen-added.ensures c.lead.ensures c.time_at.ensures in
     record {
       taking = rw e (first_of (next_one _ _ _ (omega arith)) c.loop-j.invariant);
       small = rw c.slack-limit.ensures
-          (small_mono (omega (arith, g.met.T.Stored.room)) (near c.args.first c.loop-j.j c.chosen-c.ensures c.lead.ensures c.time_at.ensures));
+          (small_mono (omega (arith, g.met.T.Stored.room)) (near c.args.first c.loop-j.j c.chosen-added.ensures c.lead.ensures c.time_at.ensures));
     }
 
 pub returns-then-not-take_in : goal.returns-then-not-take_in
 returns-then-not-take_in g c =
-    let e = c.slack-limit.ensures ∙ limit c.args.first c.loop-j.j c.chosen-c.ensures c.lead.ensures c.time_at.ensures in
+    let e = c.slack-limit.ensures ∙ limit c.args.first c.loop-j.j c.chosen-added.ensures c.lead.ensures c.time_at.ensures in
     given_up (next_one _ _ _ (omega arith)) c.loop-j.invariant (rw e at c.take_in.ensures) c.if-not-take_in.true
 
 pub loop-j-preserved : goal.loop-j-preserved
 loop-j-preserved g c =
-    let e = c.slack-limit.ensures ∙ limit c.args.first c.loop-j.j c.chosen-c.ensures c.lead.ensures c.time_at.ensures in
+    let e = c.slack-limit.ensures ∙ limit c.args.first c.loop-j.j c.chosen-added.ensures c.lead.ensures c.time_at.ensures in
     onward (next_one _ _ _ (omega arith)) c.loop-j.invariant (rw e at c.take_in.ensures) c.if-not-take_in.false
 
 pub returns : goal.returns

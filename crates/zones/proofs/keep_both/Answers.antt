@@ -12,13 +12,13 @@ ahead = record { is = refl }
 pub keep_one-requires : goal.keep_one-requires
 keep_one-requires g c =
     let p = c.requires in
-    record { taking = first_of ahead (toward_start p.taking refl); source = p.source; adds = p.adds; adds_other = p.adds_other }
+    record { taking = first_of ahead (toward_start p.taking refl); adds = p.adds; adds_other = p.adds_other }
 
 pub keep_one-requires-then-keep_one : goal.keep_one-requires-then-keep_one
 keep_one-requires-then-keep_one g c =
     let p = c.requires in
     let halfway = onward ahead (toward_start p.taking refl) c.keep_one.ensures c.if-keep_one.true in
-    record { taking = halfway.taking; source = p.source; adds = p.adds_other; adds_other = p.adds }
+    record { taking = halfway.taking; adds = p.adds_other; adds_other = p.adds }
 
 pub returns-then-keep_one : goal.returns-then-keep_one
 returns-then-keep_one g c =

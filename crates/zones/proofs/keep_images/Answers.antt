@@ -9,7 +9,6 @@ keep_both-requires g c =
     let p = c.requires in
     record {
       taking = first_of (next_list _ _ _ c.loop-l-test.true) c.loop-l.invariant;
-      source = p.source;
       adds = p.adds;
       adds_other = record { table = p.adds.table; row = omega (arith, p.adds.row); column = p.columns _ c.loop-l-test.true };
     }

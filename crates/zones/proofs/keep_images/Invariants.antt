@@ -8,6 +8,7 @@ use Rattle.zones.proofs.keep_images.Given as goal
 abbrev pub invariant-loop-l : goal.invariant-loop-l
 invariant-loop-l g l =
     let d = g.T.Stored.bounds_in in
-    let a = g.T.Stored.times_in l.times in
-    Toward l.n g.T.Stored.limit (d l.fn.part) (images l.n a (d l.zone) l.cols l.i l.s) (d l.part)
-    (flatten (from (image_pairs l.n a (d l.zone) l.cols l.i l.s) l.i l.l))
+    let t = l.target in
+    let pairs = image_pairs t.n (g.T.Stored.times_in t.times.now) (d t.zone.now) l.cols l.c.row l.c.column in
+    Toward t.n g.T.Stored.limit (d l.fn.part) (images t.n (g.T.Stored.times_in t.times.now) (d t.zone.now) l.cols l.c.row l.c.column) (d l.part)
+    (flatten (from pairs l.c.row l.l))

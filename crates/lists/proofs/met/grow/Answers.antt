@@ -12,7 +12,7 @@ pub add_at-requires : goal.add_at-requires
 add_at-requires c =
     let a = c.args in
     let u = c.requires.ready in
-    let here = free_at a.pull.n a.path.now.counts a.i in
+    let here = free_at a.target.n a.path.now.counts a.choice.row in
     let copied = rw (c.zone_size.ensures, c.free-parent.ensures, c.free-here.ensures) at c.copy.ensures in
     rw c.free-here.ensures
     (add_ready u here (rw c.copy.auto.list (here_fits u)) (rw copied (copied_at u a.seen.now here (here_fits u))) c.requires.column)
@@ -22,4 +22,5 @@ returns c =
     let a = c.args in
     let u = c.requires.ready in
     let copied = rw (c.zone_size.ensures, c.free-parent.ensures, c.free-here.ensures) at c.copy.ensures in
-    added_left u a.seen.now (free_at a.pull.n a.path.now.counts a.i) (here_fits u) a.s copied (rw c.free-here.ensures at c.add_at.ensures)
+    added_left u a.seen.now (free_at a.target.n a.path.now.counts a.choice.row) (here_fits u) a.choice.column copied
+    (rw c.free-here.ensures at c.add_at.ensures)

@@ -5,6 +5,7 @@ use mathlib.Core.Path.{◌≡◌, sym, ap}
 use mathlib.Core.Bool.{false}
 use mathlib.Core.List.{List}
 use lib.IntN.{ℤ}
+use lib.ListN.{length}
 use Rattle.model.specs.Lists.{any_of}
 use Rattle.model.specs.Matrix.{same_matrix}
 use Rattle.model.proofs.Tabulated.{from, from_next, from_end}
@@ -37,7 +38,8 @@ pub returns-in-None : goal.returns-in-None
 returns-in-None c =
     let a = c.args in
     let l = c.loop-k in
-    sym (any_found _ (zone_at a.size a.list.now) (a.end - a.first) a.first (l.k - 1) (omega arith) (omega (arith, l.invariant.lower)) c.in-None.ensures)
+    sym (any_found _ (zone_at (length a.zone.now) a.list.now) (a.end - a.first) a.first (l.k - 1) (omega arith) (omega (arith, l.invariant.lower))
+    c.in-None.ensures)
 
 pub loop-k-preserved : goal.loop-k-preserved
 loop-k-preserved c =

@@ -1,5 +1,5 @@
 -- Zone by zone, the last first: none of those behind is this one.
-use Rattle.std.proofs.Common.{◌≡◌, ◌≤◌, false}
+use Rattle.std.proofs.Common.{◌≡◌, ◌≤◌, false, length}
 use Rattle.model.specs.Lists.{any_of}
 use Rattle.model.specs.Matrix.{same_matrix}
 use Rattle.model.proofs.Tabulated.{from}
@@ -10,5 +10,5 @@ use Rattle.lists.proofs.places.has.Given as goal
 abbrev pub invariant-loop-k : goal.invariant-loop-k
 invariant-loop-k l = record {
   lower : l.first ≤ l.k;
-  none_behind : any_of (same_matrix (bounds_in l.zone)) (from (zone_at l.size l.list) l.end l.k) ≡ false;
+  none_behind : any_of (same_matrix (bounds_in l.zone)) (from (zone_at (length l.zone) l.list) l.end l.k) ≡ false;
 }

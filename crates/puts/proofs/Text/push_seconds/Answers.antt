@@ -11,7 +11,7 @@ read_back : (z : ℤ) → SFits w64 z → nat_abs (to_z w64 (of_z w64 z)) ≡ na
 read_back z h = rw (to_z-of_z h) refl
 
 pub push_number-requires : goal.push_number-requires
-push_number-requires c =
+push_number-requires g c =
     let z = c.args.x.0 in
     let digits = c.unsigned_abs.ensures.value ∙ read_back z (search rules) in
     let room = c.requires (omega (arith, digits)) in
@@ -24,7 +24,7 @@ push_number-requires c =
     ])
 
 pub returns-clause-text : goal.returns-clause-text
-returns-clause-text c =
+returns-clause-text g c =
     let z = c.args.x.0 in
     rw (c.push_number.ensures.text, c.unsigned_abs.ensures.value, read_back z (search rules)) (elim c.if-is_negative.branch [
       | then-is_negative w ↦
