@@ -157,10 +157,78 @@ fn repeated<const M: usize>(
     })
 }
 
-/// The present list and the one before it.
+/// So many of the last lists are held, the list of cycle k in place k % PLACES, but
+/// none in the first cycles.
+const PLACES: usize = 5;
+const EARLY: usize = 4;
+
+/// The last lists, from a cycle on.
+struct Past<const M: usize> {
+    lists: [Vec<Zone<M>>; PLACES],
+    from: usize,
+    /// The most zones of a list that is held.
+    room: usize,
+}
+
+impl<const M: usize> Past<M> {
+    fn new() -> Past<M> {
+        let numbers = if M <= 6 { 1024 } else { 8192 };
+        Past {
+            lists: std::array::from_fn(|_| Vec::new()),
+            from: EARLY + 1,
+            room: numbers / (M * M),
+        }
+    }
+
+    fn hold(&mut self, list: &[Zone<M>], k: usize) {
+        if k <= EARLY {
+            return;
+        }
+        if list.is_empty() || self.room < list.len() {
+            self.from = k + 1;
+            return;
+        }
+        let place = &mut self.lists[k % PLACES];
+        place.clear();
+        place.extend_from_slice(list);
+    }
+
+    /// How many cycles before list k the list is which it is, later by so many
+    /// seconds. The list right before it was looked at.
+    fn turn(&self, k: usize) -> Option<(usize, i32)> {
+        let mut lags = (2..PLACES).take_while(|lag| self.from + lag <= k);
+        lags.find_map(|lag| {
+            let before = &self.lists[(k - lag) % PLACES];
+            Some((lag, delay(before, &self.lists[k % PLACES])?))
+        })
+    }
+
+    /// What these cycles decide where each list is the one so many before it, later
+    /// by so many seconds.
+    fn repeated(
+        &mut self,
+        (lag, seconds): (usize, i32),
+        start: &[(usize, usize, i32)],
+        mut cycles: RangeInclusive<usize>,
+    ) -> Option<Answer> {
+        if seconds == 0 {
+            return None;
+        }
+        cycles.find_map(|k| {
+            let mut list = self.lists[(k - lag) % PLACES].clone();
+            list.iter_mut().for_each(|zone| zone.delay(seconds));
+            let answer = decided(&list, start, k);
+            self.lists[k % PLACES] = list;
+            answer
+        })
+    }
+}
+
+/// The present list, the one before it and the last ones.
 struct Lists<const M: usize> {
     list: Kept<M>,
     before: Kept<M>,
+    past: Past<M>,
 }
 
 impl<const M: usize> Lists<M> {
@@ -169,7 +237,11 @@ impl<const M: usize> Lists<M> {
         let [mut list, before] = [Kept::new(capacity), Kept::new(capacity)];
         let built = list.zones.add(&Zone::everything()).meet(target);
         list.zones.settle(built);
-        Lists { list, before }
+        Lists {
+            list,
+            before,
+            past: Past::new(),
+        }
     }
 
     fn is_empty(&self) -> bool {
@@ -207,6 +279,10 @@ impl<const M: usize> Lists<M> {
             if let Some(seconds) = delay(self.before.zones.all(), self.list.zones.all()) {
                 let list = self.list.zones.all_mut();
                 return Ok(repeated(list, seconds, start, k + 1..=last));
+            }
+            self.past.hold(self.list.zones.all(), k);
+            if let Some(turn) = self.past.turn(k) {
+                return Ok(self.past.repeated(turn, start, k + 1..=last));
             }
         }
         Ok(None)

@@ -647,6 +647,45 @@ pub fn drifting_trial(random: &mut Random, n: usize) -> Trial {
     }
 }
 
+/// A case whose lists take turns: each departure waits for the next one alone, and
+/// the last one for the first, so that each list is the one n cycles before it with
+/// the clock moved by the times of the round, which make 0 in some cases. Start and
+/// target bound every departure against the clock, the start so many cycles earlier,
+/// or a second beside that.
+pub fn turning_trial(random: &mut Random, n: usize) -> Trial {
+    let mut case = Case::empty(n, 64);
+    let mut waits: Vec<i64> = (0..n).map(|_| random.between(-9, 9)).collect();
+    if random.chance(1, 3) {
+        waits[n - 1] -= waits.iter().sum::<i64>();
+    }
+    for (i, wait) in waits.iter().enumerate() {
+        case.times[i * n + (i + 1) % n] = Some(*wait);
+    }
+    let cycles = 1 + random.below(64);
+    let aside = random.one_of(&[0, 0, 1]);
+    let slack = random.one_of(&[0, 1, 5]);
+    let mut near = [0; DEPARTURES];
+    for i in 0..n {
+        let late = random.between(0, 20);
+        let on_the_way: i64 = (0..cycles).map(|k| waits[(i + k) % n]).sum();
+        let (j, first) = ((i + cycles) % n, late - on_the_way + aside);
+        case.target[pair(n, i + 1, 0)] = Some(most(late + slack));
+        case.target[pair(n, 0, i + 1)] = Some(most(-late));
+        case.start[pair(n, j + 1, 0)] = Some(most(first + slack));
+        case.start[pair(n, 0, j + 1)] = Some(most(-first));
+        near[j] = first;
+    }
+    if random.chance(1, 3) {
+        mark(random, &mut case);
+    }
+    Trial {
+        case,
+        capacity: 128,
+        near,
+        parts: 1,
+    }
+}
+
 /// A second capacity for a case, from the lengths of its lists: the longest
 /// list just fits or just does not.
 pub fn sharper(random: &mut Random, lengths: &[usize]) -> Option<usize> {

@@ -8,7 +8,7 @@ use evidence::faults;
 use evidence::random::wide::{strict_wide_trial, wide_trial};
 use evidence::random::{
     crowded_trial, dense_trial, drifting_trial, sharper, strict_dense_trial, strict_trial, trial,
-    Draw, Random, Trial,
+    turning_trial, Draw, Random, Trial,
 };
 use evidence::selections::{search, Outcome};
 use std::thread;
@@ -183,6 +183,21 @@ fn lists_that_move_with_the_clock() {
         check(seed, &mut random, &trial, &mut counts);
     }
     println!("moving lists: {counts:?}");
+    let [_, later, clear, ..] = counts;
+    assert!(later.min(clear) >= 100, "{counts:?}");
+}
+
+/// Lists that are the ones so many cycles before them with the clock moved, or the same.
+#[test]
+fn lists_that_take_turns() {
+    let mut counts = [0; 6];
+    for seed in 12_000_000..12_000_600 {
+        let mut random = Random::new(seed);
+        let n = 2 + random.below(4);
+        let trial = turning_trial(&mut random, n);
+        check(seed, &mut random, &trial, &mut counts);
+    }
+    println!("lists in turns: {counts:?}");
     let [_, later, clear, ..] = counts;
     assert!(later.min(clear) >= 100, "{counts:?}");
 }

@@ -1,13 +1,28 @@
 //! The stack that a call takes, as the header states it.
 
 use evidence::archive::{self, Answer, Change, Verdict};
-use evidence::case::{Form, DEPARTURES};
+use evidence::case::{most, pair, Case, Form, DEPARTURES};
 use evidence::faults::{fault, workspace};
 use evidence::longest::{full, longest, start_of_longest};
+use evidence::selections::without_start;
 use std::thread;
 
 /// What the header names.
 const STACK: usize = 1024 * 1024;
+
+/// A round of departures that wait for each other, whose lists do not repeat in a few
+/// cycles, and a start that nobody can meet: the search goes on to the horizon.
+fn long_search() -> Case {
+    let mut case = Case::empty(DEPARTURES, 64);
+    for i in 0..DEPARTURES {
+        case.times[i * DEPARTURES + (i + 1) % DEPARTURES] = Some(i as i64);
+    }
+    case.target[pair(DEPARTURES, 1, 0)] = Some(most(0));
+    case.target[pair(DEPARTURES, 0, 1)] = Some(most(0));
+    case.start[pair(DEPARTURES, 1, 0)] = Some(most(0));
+    case.start[pair(DEPARTURES, 0, 1)] = Some(most(-1));
+    case
+}
 
 /// Every function on the longest case that it takes. Overrunning the stack would end the
 /// process.
@@ -22,6 +37,9 @@ fn calls() {
     };
     assert_eq!(archive::verdict(&bytes, 32, &mut work), Ok(reached));
     assert_eq!(archive::verdict_unpacked(&case, 32, &mut work), Ok(reached));
+    let clear = without_start(Verdict::Clear { horizon: 64 });
+    let long = archive::verdict_unpacked(&long_search(), 32, &mut work);
+    assert_eq!(long, Ok(clear));
     let change = Change {
         row: 1,
         column: 1,

@@ -1,3 +1,6 @@
+mod Keeping
 mod Looked
 mod MovingOn
 mod Searching
+mod Turning
+mod Recent

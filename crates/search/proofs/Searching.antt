@@ -3,7 +3,7 @@ use Prim.Native.Nat.{ℕ, zero, suc, ◌+◌, ◌*◌, ◌-◌, ◌≤◌, ◌<�
 use native.Mathlib.Omega.{arith}
 use native.Mathlib.Nat.{mul-le-mul_right}
 use mathlib.Core.Path.{◌≡◌, refl, sym, ap, ap₂, ◌∙◌}
-use mathlib.Core.Logic.{◌⊎◌, inl, inr, ⊎_elim}
+use mathlib.Core.Logic.{inl, inr, ⊎_elim}
 use mathlib.Core.Bool.{false, cond}
 use mathlib.Core.List.{List, [], ◌∷◌, map}
 use mathlib.Core.Option.{Option, none, some}
@@ -31,7 +31,7 @@ use Rattle.moves.specs.Moving.{moved, TwoLists}
 use Rattle.moves.proofs.Previous.{previous_moved}
 use Rattle.search.proofs.MovingOn.{not_dry}
 use Rattle.std.specs.Prelude as std
-use Rattle.search.specs.Searching.{Searchable, Lookable, met_by_cycle, moved_search, moved_on, MovingOn}
+use Rattle.search.specs.Searching.{Reached, Searchable, Lookable, met_by_cycle, moved_search, moved_on, MovingOn, past_list}
 
 -- how list k ends the search
 module _ (w : Network) (capacity k : ℕ) (zs : List Matrix) where
@@ -40,12 +40,12 @@ module _ (w : Network) (capacity k : ℕ) (zs : List Matrix) where
   settled_full h = rw (lt-ltb capacity (length zs) h)
 
   module _ (room : length zs ≤ capacity) where
-    settled_met : {c : Matrix} → first_common w.n w.start zs ≡ some c
+    pub settled_met : {c : Matrix} → first_common w.n w.start zs ≡ some c
         → settled w capacity k zs ≡ some (reached k (parts_of w) (start_in w.n (parts_of w) c))
     unfolding settled
     settled_met e = rw (le-ltb capacity (length zs) room, e)
 
-    settled_on : first_common w.n w.start zs ≡ none → settled w capacity k zs ≡ none
+    pub settled_on : first_common w.n w.start zs ≡ none → settled w capacity k zs ≡ none
     unfolding settled
     settled_on e = rw (le-ltb capacity (length zs) room, e)
 
@@ -88,25 +88,15 @@ unfolding search_from search_by dry
 from_dry w capacity zero k e = refl
 from_dry w capacity (suc r) k e = refl
 
-length_list : (size count : ℕ) (work : List ℤ) → length (list_in size count work) ≡ count
+pub length_list : (size count : ℕ) (work : List ℤ) → length (list_in size count work) ≡ count
 unfolding list_in
 length_list size count work = length_tabulate count 0 _
-
--- list k stands at source
-pub record Reached (n capacity cycles size : ℕ) (times start target work : List ℤ) (count source k : ℕ) : Type 0 where
-  pub upto : k ≤ cycles
-  pub inside : count ≤ capacity
-  pub long : length work ≡ size
-  pub at : (source ≡ 0) ⊎ (source ≡ capacity * zone_size n)
-  pub list : list_in (zone_size n) count (drop source work) ≡ lists (network_in n cycles times start target) k
-  pub rest : (e : Outcome) → let w = network_in n cycles times start target in
-      search_from w capacity cycles 1 (lists w 0) e ≡ search_from w capacity (cycles - k) (suc k) (lists w k) e
 
 module _ {n parts capacity cycles size : ℕ} {times start target : List ℤ} (q : Searchable n parts capacity cycles size times start target) where
   abbrev w : Network
   w = network_in n cycles times start target
 
-  parts_are : parts ≡ parts_of w
+  pub parts_are : parts ≡ parts_of w
   unfolding parts_of
   parts_are = q.parts_told
 
@@ -118,7 +108,7 @@ module _ {n parts capacity cycles size : ℕ} {times start target : List ℤ} (q
   }
 
   -- and it can be looked through
-  lookable : (k : ℕ) → k ≤ most_cycles → Lookable n parts start (lists w k)
+  pub lookable : (k : ℕ) → k ≤ most_cycles → Lookable n parts start (lists w k)
   lookable k cycles =
       let l = q.limits in
       let t = l.table in record {
@@ -163,10 +153,15 @@ module _ {n parts capacity cycles size : ℕ} {times start target : List ℤ} (q
   wet {work} {count} {source} r h = rw (← r.list) (not_dry (zone_size n) count (drop source work) h)
 
   -- past the last cycle
-  pub past : {work : List ℤ} {count source : ℕ} (k : ℕ) → At work count source k → 1 ≤ count → cycles ≤ k → (e : Outcome)
+  past : {work : List ℤ} {count source : ℕ} (k : ℕ) → At work count source k → 1 ≤ count → cycles ≤ k → (e : Outcome)
       → search_from w capacity cycles 1 (lists w 0) e ≡ e
   unfolding search_from search_by
   past k r zone h e = let z : cycles - k ≡ 0 = omega arith in r.rest e ∙ rw (z, wet r zone)
+
+  pub ended : {work : List ℤ} (count : ℕ) {source : ℕ} (k : ℕ) → At work count source k → cycles ≤ k → (e : Outcome)
+      → search_from w capacity cycles 1 (lists w 0) e ≡ past_list count e
+  ended zero k r last e = dried r refl e
+  ended (suc count) k r last e = past k r (omega arith) last e
 
   module _ {work : List ℤ} {count source k : ℕ} (r : At work count source k) (some_zone : 1 ≤ count) (more : k < cycles) where
     abbrev goal : ℕ

@@ -1,5 +1,8 @@
 -- The search over the lists of zones in the workspace.
-use Rattle.std.specs.Prelude.{Result, ℕ, zero, suc, ◌+◌, ◌*◌, ◌≤◌, ◌≡◌, List, map, ℤ, nat_abs, length, drop}
+use Rattle.std.specs.Prelude.{Result, ℕ, zero, suc, ◌+◌, ◌*◌, ◌-◌, ◌≤◌, ◌≡◌, ◌⊎◌, List, map, ℤ, nat_abs, length, drop}
+use Rattle.std.specs.Prelude as std
+use Rattle.std.specs.declared.ops.ControlFlow.{ControlFlow}
+use Rattle.std.specs.declared.ops.ControlFlow.TheVariants.{Continue, Break}
 use Rattle.std.proofs.Math.Option
 use Rattle.std.proofs.Math.Option.{Option, none}
 use Rattle.model.specs.declared.Fault.{Fault}
@@ -14,7 +17,8 @@ use Rattle.model.specs.Conditions.{Limits}
 use Rattle.memory.specs.Numbers.{bounds_in, InMemory}
 use Rattle.memory.specs.Networks.{network_in}
 use Rattle.memory.specs.Conditions.{TableIn, PatternIn}
-use Rattle.lists.specs.Lists.{list_in, Meets, Startable}
+use Rattle.lists.specs.Lists.{list_in, Meets, Startable, NextList}
+use Rattle.lists.specs.declared.ZoneList.{ZoneList}
 use Rattle.moves.specs.Moving.{moved}
 use Rattle.search.specs.declared.End.{End}
 use Rattle.search.specs.declared.End.TheVariants as end
@@ -35,6 +39,15 @@ pub record Searchable (n parts capacity cycles size : ℕ) (times start target :
 pub record Lookable (n parts : ℕ) (start : List ℤ) (zs : List Matrix) : Type 0 where
   pub meets : Meets n start zs
   pub startable : Startable n parts start zs
+
+-- ---- the next list, in the other half of the workspace
+-- so it is made, or it has no room
+abbrev pub NextMade : (n capacity source count : ℕ) → (times work seen : List ℤ) → std.Option ZoneList → (work' seen' : List ℤ) → Type 0
+NextMade n capacity source count times work seen std.None work' seen' =
+    NextList n capacity source (capacity * zone_size n - source) count times work seen std.None work' seen'
+NextMade n capacity source count times work seen (std.Some next) work' seen' =
+    (next.base ≡ capacity * zone_size n - source)
+    × NextList n capacity source (capacity * zone_size n - source) count times work seen (std.Some next.count) work' seen'
 
 -- ---- lists that are made by moving the clock
 -- how list k ends the search, if it does, where there is room for it
@@ -67,3 +80,25 @@ past_by end.Never = never
 -- the answer of a search over so many cycles. Free: what the workspace holds afterwards; its length is unchanged
 abbrev pub Searched : Network → ℕ → ℕ → End → Result Verdict Fault → Type 0
 Searched w capacity cycles end r = r ≡ answered (search_from w capacity cycles 1 (lists w 0) (past_by end))
+
+-- past the last cycle, with so many zones in its list
+abbrev pub past_list : ℕ → Outcome → Outcome
+past_list zero e = never
+past_list (suc count) e = e
+
+-- list k stands at source, and what is left of the search is the search from cycle k + 1 on
+pub record Reached (n capacity cycles size : ℕ) (times start target work : List ℤ) (count source k : ℕ) : Type 0 where
+  pub upto : k ≤ cycles
+  pub inside : count ≤ capacity
+  pub long : length work ≡ size
+  pub at : (source ≡ 0) ⊎ (source ≡ capacity * zone_size n)
+  pub list : list_in (zone_size n) count (drop source work) ≡ lists (network_in n cycles times start target) k
+  pub rest : (e : Outcome) → let w = network_in n cycles times start target in
+      search_from w capacity cycles 1 (lists w 0) e ≡ search_from w capacity (cycles - k) (suc k) (lists w k) e
+
+-- the answer, where a cycle up to the last of these gives it; or the list of that cycle
+abbrev pub SearchedTo : (n capacity cycles size : ℕ) → (times start target : List ℤ) → End → ℕ → ControlFlow (Result Verdict Fault) ZoneList → List ℤ → Type 0
+SearchedTo n capacity cycles size times start target end last (Break r) work =
+    Searched (network_in n cycles times start target) capacity cycles end r
+SearchedTo n capacity cycles size times start target end last (Continue list) work =
+    Reached n capacity cycles size times start target work list.count list.base last
