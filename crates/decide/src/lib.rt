@@ -130,12 +130,12 @@ fn search(from: &[i64], task: Task) -> Finding
 
 // The finding for a case without a fault: never where the start or the target has no times.
 #[tactic(auto, using(decisions::proofs::DecideHolds::accepted_case))]
-fn accepted(case: Case, horizon: usize, steps: usize) -> Finding
-    requires { Accepted case horizon }
-    ensures { Ok result ≡ told (parts_of (network case)) (decide_marked (network case) horizon steps) }
+fn accepted(case: &Case, horizon: usize, steps: usize) -> Finding
+    requires { Accepted case.now horizon }
+    ensures { Ok result ≡ told (parts_of (network case.now)) (decide_marked (network case.now) horizon steps) }
 {
     let n = case.n;
-    let loaded = Loaded::of(case);
+    let loaded = Loaded::of(*case);
     let times = loaded.times();
     let start = loaded.start();
     let target = loaded.target();
@@ -161,8 +161,8 @@ fn accepted(case: Case, horizon: usize, steps: usize) -> Finding
 
 // The first fault: of the case, 2 to 6, then 3 of the horizon that is asked.
 #[tactic(auto, using(model::proofs::Outcomes::judgements), unfolding(decisions::specs::Decide::decide_fault))]
-fn fault(case: Case, horizon: usize) -> Result<(), Fault>
-    ensures { result ≡ judged (decide_fault case horizon) }
+fn fault(case: &Case, horizon: usize) -> Result<(), Fault>
+    ensures { result ≡ judged (decide_fault case.now horizon) }
 {
     judge::case_fault(case)?;
     if judge::outside(1, FARTHEST, horizon) {
@@ -176,6 +176,6 @@ fn fault(case: Case, horizon: usize) -> Result<(), Fault>
 pub fn decide(case: Case, horizon: Cycle, steps: usize) -> Decided
     ensures { DecideGiven case horizon.0 steps result }
 {
-    fault(case, horizon.0)?;
-    Ok(accepted(case, horizon.0, steps))
+    fault(&case, horizon.0)?;
+    Ok(accepted(&case, horizon.0, steps))
 }

@@ -1,14 +1,12 @@
 -- Arrays that are filled place by place, part by part, or by what a function gives of each entry of another.
-use Prim.Native.Nat.{ℕ, suc, ◌+◌, ◌-◌, ◌≤◌, ◌<◌}
+use Prim.Native.Nat.{ℕ, suc, ◌+◌, ◌-◌, ◌<◌}
 use native.Mathlib.Numerals.{add-one}
 use native.Mathlib.Omega.{arith}
 use mathlib.Core.Path.{◌≡◌, refl, sym, ap, ap₂, ◌∙◌}
 use mathlib.Core.List.{List, [], ◌∷◌, ◌++◌, map, append-nil}
-use lib.ListN.{length, take, drop, get_or, set, replicate, length-append}
+use lib.ListN.{length, take, drop, get_or, set, replicate}
 use lib.Seq.{take_all}
-use borrow.Rule.Slice.PartMut.{put_mid}
-use Rattle.std.proofs.lemmas.List.{drop-replicate, drop-drop, drop_all, take_more_set}
-use Rattle.std.proofs.lemmas.Slice.{take-put_mid, drop-put_mid}
+use Rattle.std.proofs.lemmas.List.{drop-replicate, take_more_set}
 use Rattle.model.specs.Lists.{tabulate, padded}
 use Rattle.model.proofs.Entries.{length_tabulate}
 use Rattle.model.proofs.Tabulated.{tabulate_snoc}
@@ -34,20 +32,6 @@ module _ {X : Type 0} (z : X) (size count first : ℕ) (f : ℕ → X) (xs : Lis
   filled_whole whole =
       let none : size - length (tabulate count first f) ≡ 0 = omega (arith, length_tabulate count first f) in
       rw (filled, none) (sym (append-nil (tabulate count first f)))
-
--- three lists put one behind the other into an array that they fill
-pub three_put : {X : Type 0} (zs xs ys ws : List X) (a b k : ℕ) → length xs ≡ a → length ys ≡ b → length ws ≡ k → length zs ≡ a + b + k
-    → put_mid (a + b) k (put_mid a b (put_mid 0 a zs xs) ys) ws ≡ (xs ++ ys) ++ ws
-three_put zs xs ys ws a b k la lb lk lz =
-    let one = put_mid 0 a zs xs in
-    let two = put_mid a b one ys in
-    let room : a ≤ length one = simp length-append (omega arith) in
-    let front : take (a + b) two ≡ xs ++ ys
-    = take-put_mid a b one ys (a + b) (omega arith) room ∙ ap (λ us. us ++ ys) (take-put_mid 0 a zs xs a (omega arith) (omega arith)) in
-    let rest : drop k (drop (a + b) two) ≡ []
-    = rw (drop-put_mid a b one ys (a + b) (omega arith) room lb, drop-put_mid 0 a zs xs (a + b) (omega arith) (omega arith) la, drop-drop k (a + b) zs)
-    (drop_all (a + b + k) zs (omega arith)) in
-    rw (front, rest, append-nil ws) refl
 
 -- a list whose places hold g of those of another
 pub mapped : {X Y : Type 0} (g : X → Y) (d : X) (e : Y) (xs : List X) (ys : List Y) → length ys ≡ length xs

@@ -5,7 +5,6 @@ use mathlib.Core.Path.{◌≡◌, refl, sym, ap, ap₂, ◌∙◌}
 use mathlib.Core.Logic.{◌≢◌}
 use mathlib.Core.Bool.{Bool, true, false, not, cond}
 use mathlib.Core.List.{List, ◌∷◌}
-use mathlib.Core.Option.{none}
 use lib.Dec.{eqb}
 use lib.IntN.{ℤ, pos}
 use lib.ListN.{length, set, replicate, length-set}
@@ -20,7 +19,7 @@ use Rattle.model.specs.declared.Fault.{Fault}
 use Rattle.model.specs.Lists.{tabulate, padded}
 use Rattle.model.specs.Faults.{Entry}
 use Rattle.model.specs.Answers.{seconds}
-use Rattle.model.specs.Changes.{time_place, changed, change_fault, commit}
+use Rattle.model.specs.Changes.{time_place, changed, commit}
 use Rattle.model.proofs.Changes.{no_change_fault, place_small, refused_keeps, accepted_stands, accepted_changes}
 use Rattle.model.proofs.Entries.{length_tabulate}
 use Rattle.model.proofs.Tabulated.{tabulate_ext}
@@ -57,82 +56,88 @@ refused_case : (r : Result Case Fault) → false ≡ is_ok r → (f : Fault) × 
 refused_case (Ok c) e = impossible cc
 refused_case (Err f) e = (f, refl)
 
+-- a flag and a time put at place k of two arrays
+module _ (k x : ℕ) (time : ℤ) (present : List ℕ) (values : List ℤ) where
+  abbrev flags : List ℕ
+  flags = set present k x
+
+  abbrev times : List ℤ
+  times = set values k time
+
+  -- what is put is there
+  there : k < length present → k < length values → slot_at flags times k ≡ slot_of x time
+  unfolding slot_at
+  there l m = ap₂ slot_of (get_or-set_same present k x 0 l) (get_or-set_same values k time (pos 0) m)
+
+  -- every other entry is as it was
+  others : (i : ℕ) → i ≢ k → slot_at flags times i ≡ slot_at present values i
+  unfolding slot_at
+  others i apart = ap₂ slot_of (get_or-set_other present k i x 0 apart) (get_or-set_other values k i time (pos 0) apart)
+
+  -- the table's entries
+  table_put : {e : Entry Seconds} → slot_at flags times k ≡ e → k < most_times
+      → tabulate most_times 0 (slot_at flags times) ≡ set (tabulate most_times 0 (slot_at present values)) k e
+  table_put put l =
+      let from : 0 + k ≡ k = omega arith in
+      set_tabulate most_times 0 k (slot_at present values) (slot_at flags times) l (λ i apart. others i (rw from at apart)) ∙ rw (from, put)
+
+  module _ (strict : List ℕ) where
+    -- the bounds from a later place on
+    pattern_put : (first : ℕ) → k < first
+        → tabulate most_bounds first (limit_at flags strict times) ≡ tabulate most_bounds first (limit_at present strict values)
+    unfolding limit_at
+    pattern_put first l = tabulate_ext most_bounds first _ _ (λ i from to. rw (others i (λ e. omega arith)))
+
+    -- the arrays hold the case with that time changed to the entry that is there
+    pub case_put : {e : Entry Seconds} → slot_at flags times k ≡ e → (n h i j : ℕ) → k ≡ time_place n i j → k < most_times
+        → case_in n h flags strict times ≡ changed (case_in n h present strict values) i j e
+    unfolding case_in changed
+    case_put {e} put n h i j at l =
+        let old = tabulate most_times 0 (slot_at present values) in
+        let long : k < length old = omega (arith, length_tabulate most_times 0 (slot_at present values)) in
+        rw (← at, table_put put l, set_padded None most_bounds old k e long, pattern_put start_place l, pattern_put target_place (omega arith))
+
+-- ---- what a commit hands back
 module _ (n h : ℕ) (present strict : List ℕ) (values : List ℤ) (row column has : ℕ) (time : ℤ) where
   abbrev it : Case
   it = case_in n h present strict values
 
-  -- the new entry, its place and the arrays with it
+  -- the new entry, its place, and how its presence is stored
   abbrev e : Entry Seconds
   e = slot_of has time
 
   abbrev k : ℕ
   k = time_place n row column
 
-  abbrev flags : List ℕ
-  flags = set present k (flag (not (eqb has 0)))
-
-  abbrev times : List ℤ
-  times = set values k time
-
-  module _ (clean : change_fault it row column ≡ none) where
-    -- the place is in the table
-    pub in_table : (1 ≤ row) × (1 ≤ column) × (k < most_times)
-    unfolding case_in
-    in_table =
-        let here = ((no_change_fault _ _ _).0 clean).1 in
-        (here.row_from, here.column_from, place_small _ _ _ clean)
-
-    module _ (present_long : length present ≡ case_entries) (values_long : length values ≡ case_entries) where
-      there : slot_at flags times k ≡ e
-      unfolding slot_at
-      there =
-          let l : k < length present = omega (arith, in_table) in
-          let m : k < length values = omega (arith, in_table) in
-          rw (get_or-set_same present k (flag (not (eqb has 0))) 0 l, get_or-set_same values k time (pos 0) m) (flag_back (eqb has 0) time)
-
-      -- every other entry is as it was
-      others : (i : ℕ) → i ≢ k → slot_at flags times i ≡ slot_at present values i
-      unfolding slot_at
-      others i apart =
-          ap₂ slot_of (get_or-set_other present k i (flag (not (eqb has 0))) 0 apart) (get_or-set_other values k i time (pos 0) apart)
-
-      -- the table's entries
-      table_put : tabulate most_times 0 (slot_at flags times) ≡ set (tabulate most_times 0 (slot_at present values)) k e
-      table_put =
-          let from : 0 + k ≡ k = omega arith in
-          set_tabulate most_times 0 k (slot_at present values) (slot_at flags times) in_table.2 (λ i apart. others i (rw from at apart)) ∙ rw (from, there)
-
-      -- the bounds from a later place on
-      pattern_put : (first : ℕ) → most_times ≤ first
-          → tabulate most_bounds first (limit_at flags strict times) ≡ tabulate most_bounds first (limit_at present strict values)
-      unfolding limit_at
-      pattern_put first l = tabulate_ext most_bounds first _ _ (λ i from to. rw (others i (λ e. omega (arith, in_table))))
-
-      -- the arrays hold the case with that time changed
-      pub case_put : case_in n h flags strict times ≡ changed it row column e
-      unfolding case_in changed
-      case_put =
-          let old = tabulate most_times 0 (slot_at present values) in
-          let long : k < length old = omega (arith, in_table, length_tabulate most_times 0 (slot_at present values)) in
-          rw (table_put, set_padded None most_bounds old k e long, pattern_put start_place (omega arith), pattern_put target_place (omega arith))
+  abbrev x : ℕ
+  x = flag (not (eqb has 0))
 
   -- where the change is accepted, its place is in the table
   pub placed : true ≡ is_ok (commit it row column e) → (1 ≤ row) × (1 ≤ column) × (k < most_times)
-  placed ok = let (c, is) = accepted_case (commit it row column e) ok in in_table (accepted_changes it row column e c is).0
+  unfolding case_in
+  placed ok =
+      let (c, is) = accepted_case (commit it row column e) ok in
+      let clean = (accepted_changes it row column e c is).0 in
+      let here = ((no_change_fault _ _ _).0 clean).1 in
+      (here.row_from, here.column_from, place_small _ _ _ clean)
 
-  -- ---- what a commit hands back
   module _ {returned first second : ℕ} (t : Handed (written_numbers (with_count (commit it row column e) 0)) returned first second) where
     pub put_handed : length present ≡ case_entries → length values ≡ case_entries → true ≡ is_ok (commit it row column e)
-        → CommitHanded n h present strict values row column has time returned first second flags times
+        → CommitHanded n h present strict values row column has time returned first second (flags k x time present values) (times k x time present values)
     unfolding stored
     put_handed present_long values_long done =
         let (c, ok) = accepted_case (commit it row column e) done in
         let (clean, after, is) = accepted_changes it row column e c ok in
+        let in_table = (placed done).2 in
+        let put = there k x time present values (omega arith) (omega arith) ∙ flag_back (eqb has 0) time in
         record {
           numbers = t;
           present_after = rw ok;
           values_after = rw ok;
-          stands = case_put clean present_long values_long ∙ sym is ∙ sym (accepted_stands it row column e c ok);
+          stands =
+              case_put k x time present values strict put n h row column refl in_table
+              ∙ sym is
+              ∙ sym (accepted_stands it row column e c ok);
         }
 
     pub kept_handed : false ≡ is_ok (commit it row column e)

@@ -3,7 +3,7 @@
 // Names of functions with arrays end in the most departures, which decides how long the arrays are: the header gives them to the linker under plain names.
 #![tactic(auto)]
 
-ghost use Rattle.std.specs.Prelude.{◌≡◌, ◌+◌, ◌≤◌, ◌<◌, ◌++◌, length};
+ghost use Rattle.std.specs.Prelude.{◌≡◌, ◌+◌, ◌≤◌, ◌<◌, length, set, is_some};
 ghost use Rattle.model.specs.Sizes.{most_times, most_bounds};
 ghost use Rattle.model.specs.Lists.{padded, tabulate};
 ghost use Rattle.model.specs.Faults.{unmarked, marked};
@@ -220,34 +220,6 @@ fn case_in(
     }
 }
 
-// Three lists of entries put one behind the other, where they fill the array.
-#[tactic(auto, using(crate::proofs::Arrays::three_put))]
-fn put_all(
-    times: &[Option<Limit>],
-    start: &[Option<Limit>],
-    target: &[Option<Limit>],
-    entries: &mut [Option<Limit>],
-)
-    requires { length entries.old ≡ length times.now + length start.now + length target.now }
-    ensures { entries.new ≡ (times.now ++ start.now) ++ target.now }
-{
-    let first = times.len();
-    let second = first + start.len();
-    entries[..first].copy_from_slice(times);
-    entries[first..second].copy_from_slice(start);
-    entries[second..].copy_from_slice(target);
-}
-
-// The entries of a case in their places: the table's first, then those of the start and of the target.
-fn entries(case: Case) -> [Option<Limit>; ENTRIES]
-    ensures { result ≡ entries_of case.times case.start case.target }
-{
-    let times = case.times.map(packed::unmarked);
-    let mut entries = [None; ENTRIES];
-    put_all(&times[..TIMES], &case.start, &case.target, &mut entries);
-    entries
-}
-
 // How a presence or a mark is handed back: 1 if it is so, else 0.
 fn flag(is: bool) -> u8
     ensures { result ≡ flag is }
@@ -268,19 +240,44 @@ fn number(entry: Option<Limit>) -> i64
     entry.map_or(0, |limit| limit.value.0)
 }
 
-// Hands the entries of a case back in three arrays: 1 in present where one is there and 1 in strict where it is strict, else 0.
-fn hand_entries(
-    case: Case,
+// Hands an entry back in its place k of three arrays: 1 in present where it is there and 1 in strict where it is strict, else 0.
+fn hand_entry(
+    entry: Option<Limit>,
+    k: usize,
     present: &mut [u8; ENTRIES],
     strict: &mut [u8; ENTRIES],
     values: &mut [i64; ENTRIES],
 )
-    ensures { EntriesHanded (entries_of case.times case.start case.target) present.new strict.new values.new }
+    requires { k < case_entries }
+    ensures presence { present.new ≡ set present.old k (flag (is_some entry)) }
+    ensures marks { strict.new ≡ set strict.old k (flag (marked entry)) }
+    ensures numbers { values.new ≡ set values.old k (entry_number entry) }
 {
-    let entries = entries(case);
-    *present = entries.map(|entry| flag(entry.is_some()));
-    *strict = entries.map(mark);
-    *values = entries.map(number);
+    present[k] = flag(entry.is_some());
+    strict[k] = mark(entry);
+    values[k] = number(entry);
+}
+
+// Hands the entries of a case back: the table's first, then those of the start and of the target.
+fn hand_entries(
+    times: &[Option<Seconds>; BOUNDS],
+    start: &[Option<Limit>; BOUNDS],
+    target: &[Option<Limit>; BOUNDS],
+    present: &mut [u8; ENTRIES],
+    strict: &mut [u8; ENTRIES],
+    values: &mut [i64; ENTRIES],
+)
+    ensures { EntriesHanded (entries_of times.now start.now target.now) present.new strict.new values.new }
+{
+    for k in 0..START {
+        hand_entry(packed::unmarked(times[k]), k, present, strict, values);
+    }
+    for i in START..TARGET {
+        hand_entry(start[i - START], i, present, strict, values);
+    }
+    for j in TARGET..ENTRIES {
+        hand_entry(target[j - TARGET], j, present, strict, values);
+    }
 }
 
 // The verdict on a packed case.
@@ -401,7 +398,7 @@ pub extern "C" fn tramcheck_run_parts_15(
 {
     let case = case_in(n, 0, present, strict, values);
     let run = runs::run_parts(case, start_times(*start), Cycle(cycle));
-    let answer = run_answer(run, Cycle(cycle), judge::parts(case));
+    let answer = run_answer(run, Cycle(cycle), judge::parts(&case));
     tell(answer, fault, value, parts, times)
 }
 
@@ -520,10 +517,20 @@ pub extern "C" fn tramcheck_read_15(
     ensures case_handed { CaseHanded (read_case (parse bytes.now)) n.new horizon.new present.new strict.new values.new }
 {
     let read = packed::read(bytes);
-    let case = read.unwrap_or(NO_CASE);
+    let case = match &read {
+        Ok(case) => case,
+        Err(_) => &NO_CASE,
+    };
     *n = case.n;
     *horizon = case.horizon.0;
-    hand_entries(case, present, strict, values);
+    hand_entries(
+        &case.times,
+        &case.start,
+        &case.target,
+        present,
+        strict,
+        values,
+    );
     hand_count(read.map(|_| bytes.len()), fault, value)
 }
 

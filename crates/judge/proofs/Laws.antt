@@ -1,16 +1,16 @@
--- Laws of the judged faults: one turn and the end of the walk over entries, and what the number of departures and the parts keep to.
+-- Laws of the judged faults: one turn and the end of the walks over entries and over rows, and what the number of departures and the parts keep to.
 use mathlib.Core.Path.{◌≡◌, refl, ap, sym, ◌∙◌}
-use Prim.Native.Nat.{ℕ, zero, suc, ◌+◌, ◌*◌, ◌≤◌, ◌<◌}
-use native.Mathlib.Nat.{add-zero, suc-mul}
+use Prim.Native.Nat.{ℕ, zero, suc, ◌+◌, ◌-◌, ◌*◌, ◌≤◌, ◌<◌}
+use native.Mathlib.Nat.{add-zero, suc-mul, add-mul, mul-le-mul}
 use native.Mathlib.Numerals.{add-one}
 use native.Mathlib.Omega.{arith}
 use borrow.Author.Tests.{le-ltb}
-use mathlib.Core.List.{List, [], ◌∷◌, ◌++◌, map}
+use mathlib.Core.List.{List, [], ◌∷◌, map}
 use mathlib.Core.Option.{Option, none}
-use mathlib.Core.Bool.{Bool, true, false, not, ◌||◌, cond}
-use lib.ListN.{length, take, drop, get_or, drop_of_length-le, length-append}
-use lib.Seq.{drop-cons}
-use Rattle.std.proofs.lemmas.List.{take_at, drop_at, take-take, drop-take}
+use mathlib.Core.Bool.{Bool, true, false, not, ◌||◌, cond, or_assoc}
+use lib.ListN.{length, take, drop, get_or, drop_of_length-le, length-take, length-drop}
+use lib.Seq.{drop-cons, drop-drop, get_or-take, get_or-drop}
+use Rattle.std.proofs.lemmas.List.{take-take, drop-take}
 use Rattle.std.specs.Prelude.{Some, None, Ok, Err, is_some}
 use Rattle.std.specs.List.{list_any}
 use Rattle.ints.specs.declared.Seconds.{Seconds}
@@ -81,55 +81,73 @@ holds_mark [] = refl
 holds_mark (None ∷ es) = holds_mark es
 holds_mark (Some e ∷ es) = ap (◌||◌ e.strict) (holds_mark es)
 
--- ---- a walk over rows of n entries: k were passed, and the first fault is that of the rows left
-pub record RowsPassed (n : ℕ) (es : List (Entry Seconds)) (size k : ℕ) (rest : List (Entry Seconds)) : Type 0 where
-  pub width : size ≡ n
-  pub left : ℕ
-  pub rows : left + k ≡ n
-  pub long : length rest ≡ left * n
-  pub same : rows_fault n n 0 es ≡ rows_fault n left (k * n) rest
+-- ---- a walk over n rows of n entries: the first fault is that of the rows from r on
+pub record RowsPassed (n : ℕ) (es : List (Entry Seconds)) (r : ℕ) : Type 0 where
+  pub within : r ≤ n
+  pub rest : rows_fault n n 0 es ≡ rows_fault n (n - r) (r * n) (drop (r * n) es)
 
--- the next row
-module _ {n size k : ℕ} {es rest : List (Entry Seconds)} (s : RowsPassed n es size k rest) (d : Departures n) (row more : List (Entry Seconds))
-    (cut : rest ≡ row ++ more) (w : length row ≡ size) where
-  abbrev Turn : Type 0
-  Turn = (r : ℕ) × (suc r + k ≡ n) × (length more ≡ r * n) × (rows_fault n n 0 es
-      ≡ or_else (entry_fault (over time_limit fault.Time) (k * n) row)
-      (or_else (when (not (list_any is_some row)) (fault.EmptyRow (k * n))) (rows_fault n r ((k + 1) * n) more)))
+-- in row r, of which the entries before place i are within their limits: t says that they hold a time
+abbrev row_of : ℕ → List (Entry Seconds) → ℕ → List (Entry Seconds)
+row_of n es r = take n (drop (r * n) es)
 
-  turn : Turn
+pub record InRow (n : ℕ) (es : List (Entry Seconds)) (r i : ℕ) (t : Bool) : Type 0 where
+  pub before : r < n
+  pub rest : rows_fault n n 0 es ≡
+      let left = drop i (row_of n es r) in
+      or_else (entry_fault (over time_limit fault.Time) (r * n + i) left)
+      (or_else (when (not (t || list_any is_some left)) (fault.EmptyRow (r * n))) (rows_fault n (n - (r + 1)) ((r + 1) * n) (drop ((r + 1) * n) es)))
+
+module _ {n r : ℕ} {es : List (Entry Seconds)} (s : RowsPassed n es r) where
+  pub row_none : r < n → InRow n es r 0 false
   unfolding rows_fault
-  turn = go s.left s.rows s.long s.same
-    where
-      go : (r : ℕ) → r + k ≡ n → length rest ≡ r * n → rows_fault n n 0 es ≡ rows_fault n r (k * n) rest → Turn
-      go zero e l f = absurd (omega (arith, ap length cut, length-append row more, s.width, d.some))
-      go (suc r) e l f =
-          let wide : length row ≡ n = w ∙ s.width in
-          let front = take_at row more n wide in
-          let back = drop_at row more n wide in
-          let next : (k + 1) * n ≡ k * n + n = rw add-one (suc-mul k n) in
-          (r, e, omega (arith, ap length cut, length-append row more), f ∙ rw (cut, front, back, holds_time, next) refl)
+  row_none h =
+      let m : n - r ≡ suc (n - (r + 1)) = omega arith in
+      let next : (r + 1) * n ≡ r * n + n = rw add-one (suc-mul r n) in
+      record { before = h; rest = s.rest ∙ rw (m, next, add-zero, holds_time, ← (drop-drop n (r * n) es)) refl }
 
-  pub row_refused : {f : Fault} → Err f ≡ judged (entry_fault (over time_limit fault.Time) (k * n) row) → Err f ≡ judged (rows_fault n n 0 es)
-  row_refused {f} b = let e = judged_err _ f (sym b) in rw (turn.3, e)
+  -- no row is left
+  pub rows_end : n ≤ r → Ok tt ≡ judged (rows_fault n n 0 es)
+  unfolding rows_fault
+  rows_end h = let m : n - r ≡ 0 = omega arith in rw (s.rest, m) refl
 
-  module _ {u : Unit {0}} (b : Ok u ≡ judged (entry_fault (over time_limit fault.Time) (k * n) row)) where
-    pub row_empty : false ≡ list_any is_some row → Err (fault.EmptyRow (k * n)) ≡ judged (rows_fault n n 0 es)
-    row_empty t = let e = judged_ok _ u (sym b) in rw (turn.3, e, ← t)
+module _ {n r i : ℕ} {es : List (Entry Seconds)} {t : Bool} (s : InRow n es r i t) (l : length es ≡ n * n) where
+  -- the next entry
+  module _ (h : i < n) where
+    abbrev entry : Entry Seconds
+    entry = get_or es (r * n + i) None
 
-    pub row_passed : true ≡ list_any is_some row → RowsPassed n es size (k + 1) more
-    row_passed t =
-        let e = judged_ok _ u (sym b) in
-        record { width = s.width; left = turn.0; rows = omega (arith, turn.1); long = turn.2; same = turn.3 ∙ rw (e, ← t) refl }
+    front : drop i (row_of n es r) ≡ entry ∷ drop (i + 1) (row_of n es r)
+    front =
+        let m : r + 1 ≤ n = omega (arith, s.before) in
+        let n_in : n ≤ n = omega arith in
+        let fits : r * n + n ≤ n * n = omega (arith, mul-le-mul m n_in, add-mul r 1 n) in
+        let long : i < length (row_of n es r) = rw (length-take, length-drop) (omega (arith, fits)) in
+        let same : get_or (row_of n es r) i None ≡ entry = rw (get_or-take, get_or-drop) refl in
+        rw add-one (rw same at (drop-cons (row_of n es r) i None long))
 
--- no row is left
-pub rows_end : {n size k : ℕ} {es rest : List (Entry Seconds)} → RowsPassed n es size k rest → length rest < size → rows_fault n n 0 es ≡ none
-unfolding rows_fault
-rows_end {n} {k = k} {es} {rest} s h = go s.left s.long s.same
-  where
-    go : (r : ℕ) → length rest ≡ r * n → rows_fault n n 0 es ≡ rows_fault n r (k * n) rest → rows_fault n n 0 es ≡ none
-    go zero l e = e
-    go (suc r) l e = absurd (omega (arith, suc-mul r n, s.width))
+    pub entry_refused : {f : Fault} → Err f ≡ judged (over time_limit fault.Time (r * n + i) entry) → Err f ≡ judged (rows_fault n n 0 es)
+    unfolding entry_fault
+    entry_refused {f} b = let refused = judged_err _ f (sym b) in rw (s.rest, front) (simp refused)
+
+    pub entry_passed : {u : Unit {0}} → Ok u ≡ judged (over time_limit fault.Time (r * n + i) entry) → InRow n es r (i + 1) (t || is_some entry)
+    unfolding entry_fault
+    entry_passed {u} b =
+        let m : suc (r * n + i) ≡ r * n + (i + 1) = omega arith in
+        let clean = judged_ok _ u (sym b) in
+        record { before = s.before; rest = s.rest ∙ rw front (simp (clean, m, or_assoc)) }
+
+  -- its end
+  module _ (h : n ≤ i) where
+    none_left : drop i (row_of n es r) ≡ []
+    none_left = drop_of_length-le (row_of n es r) (rw (length-take, length-drop) (omega (arith, h)))
+
+    pub row_empty : t ≡ false → Err (fault.EmptyRow (r * n)) ≡ judged (rows_fault n n 0 es)
+    unfolding entry_fault
+    row_empty e = rw (s.rest, none_left, e) refl
+
+    pub row_passed : t ≡ true → RowsPassed n es (r + 1)
+    unfolding entry_fault
+    row_passed e = record { within = omega (arith, s.before); rest = s.rest ∙ rw (none_left, e) refl }
 
 -- entries behind the rows do not count
 pub rows_front : (n r p : ℕ) (es : List (Entry Seconds)) → rows_fault n r p (take (r * n) es) ≡ rows_fault n r p es

@@ -1,10 +1,10 @@
 // Judges an unpacked case: the first fault of the case by itself, for a packed form, of a call for a verdict, and of a run. Also, the parts of its start.
 #![tactic(auto)]
 
-ghost use Rattle.std.specs.Prelude.{◌≡◌, map, ◌≤◌, ◌<◌, ◌^◌, ◌+◌, ◌*◌, length, is_some, ltb};
+ghost use Rattle.std.specs.Prelude.{◌≡◌, map, ◌≤◌, ◌<◌, ◌^◌, ◌+◌, ◌*◌, length, ltb};
 ghost use Rattle.std.specs.List.{list_any};
 ghost use Rattle.model.specs.declared.Fault.TheVariants as fault;
-ghost use Rattle.model.specs.Sizes.{most_departures, most_times, most_bounds, time_limit, start_limit};
+ghost use Rattle.model.specs.Sizes.{most_departures, most_bounds, start_limit};
 ghost use Rattle.model.specs.Forms.{most_in};
 ghost use Rattle.model.specs.Lists.{when};
 ghost use Rattle.model.specs.Faults;
@@ -56,37 +56,30 @@ fn first_fault<E: Copy, F: Fn(E, usize) -> Result<(), Fault> + Copy>(
     Ok(())
 }
 
-// Fault 4: the first time of a row that is beyond the limit, the row's entries being numbered from first on.
-#[tactic(auto, unfolding(model::specs::Faults::over))]
-fn entries_fault(row: &[Option<Seconds>], first: usize) -> Result<(), Fault>
-    requires { first + length row.now ≤ most_times }
-    ensures { result ≡ judged (entry_fault (over time_limit fault.Time) first row.now) }
-{
-    first_fault(row, first, |time, place| {
-        within(time, TIME_LIMIT, Fault::Time(place))
-    })
-}
-
-// A row holds a time.
-fn holds_time(row: &[Option<Seconds>]) -> bool
-    ensures { result ≡ list_any is_some row.now }
-{
-    row.iter().any(|time| time.is_some())
-}
-
 // Faults 4 and 5: each row's entries, then whether it holds a time.
 fn rows_fault(times: &[Option<Seconds>], n: usize) -> Result<(), Fault>
     requires { Departures n × (length times.now ≡ n * n) }
     ensures { result ≡ judged (rows_fault n n 0 times.now) }
 {
-    for (row, entries) in times.chunks_exact(n).enumerate() {
+    let mut judged = Ok(());
+    'rows: for row in 0..n {
         let first = row * n;
-        entries_fault(entries, first)?;
-        if !holds_time(entries) {
-            return Err(Fault::EmptyRow(first));
+        let mut some = false;
+        for column in 0..n {
+            let place = first + column;
+            let time = times[place];
+            if let Err(fault) = within(time, TIME_LIMIT, Fault::Time(place)) {
+                judged = Err(fault);
+                break 'rows;
+            }
+            some |= time.is_some();
+        }
+        if !some {
+            judged = Err(Fault::EmptyRow(first));
+            break 'rows;
         }
     }
-    Ok(())
+    judged
 }
 
 // Fault 6 of a bound, then 16 if it is strict where the form has no place for a mark.
@@ -130,9 +123,9 @@ fn starts_fault(start: &[Seconds]) -> Result<(), Fault>
 // Fault 3 for k cycles of which there are to be at least low, then 4 and 5. That n is in its limits is asked for here and in three more functions: a struct
 // that holds it would be made at each place that judges n, which is no shorter.
 #[tactic(auto, using(model::proofs::Outcomes::judgements, crate::proofs::Laws::rows_front))]
-fn times_fault(case: Case, low: usize, k: usize) -> Result<(), Fault>
-    requires { Departures case.n }
-    ensures { result ≡ judged (times_fault case low k) }
+fn times_fault(case: &Case, low: usize, k: usize) -> Result<(), Fault>
+    requires { Departures case.now.n }
+    ensures { result ≡ judged (times_fault case.now low k) }
 {
     let n = case.n;
     if outside(low, CYCLES, k) {
@@ -143,8 +136,8 @@ fn times_fault(case: Case, low: usize, k: usize) -> Result<(), Fault>
 
 // Fault 2, then 3 to 5.
 #[tactic(auto, using(model::proofs::Outcomes::judgements), unfolding(model::specs::Faults::table_fault, model::specs::Faults::outside))]
-fn table_fault(case: Case, low: usize, k: usize) -> Result<(), Fault>
-    ensures { result ≡ judged (table_fault case low k) }
+fn table_fault(case: &Case, low: usize, k: usize) -> Result<(), Fault>
+    ensures { result ≡ judged (table_fault case.now low k) }
 {
     let n = case.n;
     if outside(1, DEPARTURES, n) {
@@ -155,9 +148,9 @@ fn table_fault(case: Case, low: usize, k: usize) -> Result<(), Fault>
 
 // Faults 6 and 16: the start, then the target, whose bounds are numbered after those of the start.
 #[tactic(auto, using(model::proofs::Outcomes::judgements), unfolding(model::specs::Faults::patterns_fault))]
-fn patterns_fault(case: Case, form: Form) -> Result<(), Fault>
-    requires { Departures case.n }
-    ensures { result ≡ judged (patterns_fault (bound_fault_in form) case) }
+fn patterns_fault(case: &Case, form: Form) -> Result<(), Fault>
+    requires { Departures case.now.n }
+    ensures { result ≡ judged (patterns_fault (bound_fault_in form) case.now) }
 {
     let n = case.n;
     let size = n * (n + 1);
@@ -192,8 +185,8 @@ fn too_many(n: usize, form: Form) -> bool
 
 // The first fault of a case for a packed form: 2, 16 of n, 3 to 5, then 6 and 16 bound by bound.
 #[tactic(auto, using(model::proofs::Outcomes::judgements), unfolding(model::specs::Faults::form_fault, model::specs::Faults::outside))]
-pub fn form_fault(case: Case, form: Form) -> Result<(), Fault>
-    ensures { result ≡ judged (form_fault form case) }
+pub fn form_fault(case: &Case, form: Form) -> Result<(), Fault>
+    ensures { result ≡ judged (form_fault form case.now) }
 {
     let n = case.n;
     let cycles = case.horizon.0;
@@ -209,16 +202,16 @@ pub fn form_fault(case: Case, form: Form) -> Result<(), Fault>
 
 // The first fault of a case by itself, 2 to 6: the wide form has a place for every case.
 #[tactic(auto, using(model::proofs::Limits::wide_fault))]
-pub fn case_fault(case: Case) -> Result<(), Fault>
-    ensures { result ≡ judged (case_fault case) }
+pub fn case_fault(case: &Case) -> Result<(), Fault>
+    ensures { result ≡ judged (case_fault case.now) }
 {
     form_fault(case, WIDE)
 }
 
 // The first fault of a call for a verdict, capacity being Z and size the length of the workspace.
 #[tactic(auto, using(crate::proofs::Laws::known_departures), unfolding(model::specs::Faults::call_fault))]
-pub fn call_fault(case: Case, capacity: usize, size: usize) -> Result<(), Fault>
-    ensures { result ≡ judged (call_fault case capacity size) }
+pub fn call_fault(case: &Case, capacity: usize, size: usize) -> Result<(), Fault>
+    ensures { result ≡ judged (call_fault case.now capacity size) }
 {
     case_fault(case)?;
     room_fault(case.n, capacity, size)
@@ -226,8 +219,8 @@ pub fn call_fault(case: Case, capacity: usize, size: usize) -> Result<(), Fault>
 
 // The first fault of a run from some start times to a cycle.
 #[tactic(auto, using(crate::proofs::Laws::known_departures), unfolding(model::specs::Faults::run_fault))]
-pub fn run_fault(case: Case, start: [Seconds; DEPARTURES], cycle: Cycle) -> Result<(), Fault>
-    ensures { result ≡ judged (run_fault case start cycle.0) }
+pub fn run_fault(case: &Case, start: [Seconds; DEPARTURES], cycle: Cycle) -> Result<(), Fault>
+    ensures { result ≡ judged (run_fault case.now start cycle.0) }
 {
     table_fault(case, 0, cycle.0)?;
     starts_fault(&start[..case.n])
@@ -245,8 +238,8 @@ fn some_strict(bounds: &[Option<Limit>]) -> bool
 // The parts of a second that a start of the case is in, 0 where its number of departures is refused: the promise holds of every case, as `runs::run_parts`
 // takes the parts before the run's fault is known.
 #[tactic(auto, using(crate::proofs::Laws::counted_parts))]
-pub fn parts(case: Case) -> usize
-    ensures { result ≡ start_parts case }
+pub fn parts(case: &Case) -> usize
+    ensures { result ≡ start_parts case.now }
 {
     let n = case.n;
     if outside(1, DEPARTURES, n) {

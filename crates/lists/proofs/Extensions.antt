@@ -1,5 +1,5 @@
 -- The sets of all selections, row by row: an empty set adds nothing, whatever the rows below it pick.
-use Prim.Native.Nat.{ℕ, suc, ◌+◌, ◌-◌, ◌≤◌, ◌<◌}
+use Prim.Native.Nat.{ℕ, zero, suc, ◌+◌, ◌-◌, ◌≤◌, ◌<◌}
 use native.Mathlib.Omega.{arith}
 use native.Mathlib.Numerals.{add-one}
 use mathlib.Core.Path.{◌≡◌, refl, sym, ap, fun_ext, ◌∙◌}
@@ -57,11 +57,20 @@ module _ (n : ℕ) (a : List Time) (i : ℕ) where
   columns_end s h = let z : suc n - s ≡ 0 = omega arith in rw z
 
   -- a blank one is passed over
-  pub columns_past : (s : ℕ) → s ≤ n → is_time (time n a i s) ≡ false → columns_from s ≡ columns_from (s + 1)
+  pub column_past : (s : ℕ) → s ≤ n → is_time (time n a i s) ≡ false → columns_from s ≡ columns_from (s + 1)
   unfolding columns is_time
-  columns_past s h e =
+  column_past s h e =
       let z : suc n - s ≡ suc (suc n - suc s) = omega arith in
       rw (z, blank_there (time n a i s) e, add-one s) refl
+
+  -- and so are all of a run of blank ones, from column s to before r
+  pub columns_past : {s r : ℕ} → s ≤ r → r ≤ suc n → ((t : ℕ) → s ≤ t → t < r → time n a i t ≡ blank) → columns_from s ≡ columns_from r
+  unfolding is_time
+  columns_past {s} {r} from to blanks = go (r - s) s (omega arith) (omega arith)
+    where
+      go : (k t : ℕ) → t + k ≡ r → s ≤ t → columns_from t ≡ columns_from r
+      go zero t e h = let p : t ≡ r = omega arith in rw p
+      go (suc k) t e h = column_past t (omega arith) (rw (blanks t h (omega arith)) refl) ∙ go k (t + 1) (omega arith) (omega arith)
 
 -- ---- the sets by the column of row i
 module _ (n : ℕ) (a : List Time) (d : Matrix) where

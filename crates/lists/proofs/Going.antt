@@ -19,7 +19,7 @@ use Rattle.lists.specs.Lists.{list_in}
 use Rattle.lists.specs.Selecting.{extensions}
 use Rattle.lists.specs.Inner.{parent_in, column_sets, SelectReady, TakeReady, Selected}
 use Rattle.lists.proofs.Held.{held_list, held_room, held_since, held_still, held_as_is}
-use Rattle.lists.proofs.Extensions.{columns_from, columns_here, columns_end, columns_past, by_columns}
+use Rattle.lists.proofs.Extensions.{columns_from, columns_here, columns_end, column_past, by_columns}
 use Rattle.lists.proofs.Rows.{rows_same, rows_then, parent_same, still_underway}
 use Rattle.lists.proofs.met.Covered.{noted_on}
 
@@ -102,7 +102,7 @@ module _ {n capacity count : ℕ} {list₀ times zone seen₀ : List ℤ} {count
       made = g.made;
       list_size = g.list_size;
       seen_size = g.seen_size;
-      rest = g.rest ∙ ap (λ (ss : List ℕ). foldl keep g.zs (flat_map sets_of ss)) (columns_past n (times_in times) i s h e);
+      rest = g.rest ∙ ap (λ (ss : List ℕ). foldl keep g.zs (flat_map sets_of ss)) (column_past n (times_in times) i s h e);
     }
 
     -- the sets of any other are put to it

@@ -312,7 +312,8 @@ pub fn first_common(
     let mut zone = [0i32; NUMBERS];
     for part in list.numbers(work, n).chunks_exact(size) {
         zone[..size].copy_from_slice(part);
-        if zones::common(&mut zone[..size], pattern, n) {
+        let some = zones::common(&mut zone[..size], pattern, n);
+        if some {
             return Some(starts::start(&zone[..size], n, parts));
         }
     }
@@ -325,7 +326,8 @@ pub fn whole_pattern(pattern: &[i32], n: usize, parts: usize) -> Option<[i64; NU
     ensures { WholeOf n pattern.now parts result }
 {
     let mut zone = [0i32; NUMBERS];
-    if !first_list(&mut zone, pattern, n) {
+    let some = first_list(&mut zone, pattern, n);
+    if !some {
         return None;
     }
     Some(starts::whole_zone(&zone[..zone_size(n)], n, parts))

@@ -55,13 +55,15 @@ pub(crate) fn has(list: &[i32], first: usize, end: usize, zone: &[i32]) -> bool
     false
 }
 
-// The zone, as zone k of the list.
+// The zone, as zone k of the list. By index, as `powers::put_front`: without memmove.
 pub(crate) fn store(list: &mut [i32], k: usize, zone: &[i32])
     requires { k * length zone.now + length zone.now ≤ length list.old }
     ensures { list.new ≡ paste list.old (k * length zone.now) zone.now (length zone.now) }
 {
     let base = k * zone.len();
-    list[base..base + zone.len()].copy_from_slice(zone);
+    for p in 0..zone.len() {
+        list[base + p] = zone[p];
+    }
 }
 
 // The zone at one place, copied to a later place.

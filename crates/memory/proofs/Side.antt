@@ -1,13 +1,17 @@
 -- Sets side by side: a part lent and given back, a set copied, and what stays.
-use Prim.Native.Nat.{ℕ, zero, suc, ◌+◌, ◌*◌, ◌-◌, ◌≤◌}
+use Prim.Native.Nat.{ℕ, zero, suc, ◌+◌, ◌*◌, ◌-◌, ◌≤◌, ◌<◌}
 use native.Mathlib.Omega.{arith}
+use native.Mathlib.Numerals.{add-one}
 use mathlib.Core.Path.{◌≡◌, refl, sym, ap, ◌∙◌}
 use mathlib.Core.List.{List, [], ◌∷◌, ◌++◌, append_assoc}
-use lib.IntN.{ℤ}
-use lib.ListN.{length, take, drop, length-take, length-drop}
-use lib.Seq.{drop-drop, take_all, take-take, take_at, drop_at, length-take-le}
-use lib.Seq.{paste, drop-paste}
+use lib.IntN.{ℤ, pos}
+use lib.ListN.{length, take, drop, get_or, set, length-take, length-drop, length-set, get_or-append}
+use lib.Seq.{get_or-take, drop-drop, take_all, take-take, take_at, drop_at, length-take-le}
+use lib.Seq.{paste, paste-zero, paste-suc, drop-paste, length_paste_head}
 use borrow.Rule.Slice.PartMut.{put_mid, take_put, drop_put}
+use mir.Syntax.{Width}
+use mir.Val.{SFits, to_z, of_z}
+use mir.ValLaws.{to_z-of_z}
 use Rattle.memory.specs.Side.{numbers_at, Elsewhere}
 
 pub length_numbers : (size : ℕ) (list : List ℤ) (k : ℕ) → k * size + size ≤ length list → length (numbers_at size list k) ≡ size
@@ -51,6 +55,32 @@ module _ (size k : ℕ) (list out : List ℤ) (inside : k * size + size ≤ leng
   pub back_at : numbers_at size given_back k ≡ out
   back_at =
       ap (take size) (drop_at (take (k * size) list) _ (k * size) (length-take-le (k * size) list (omega arith))) ∙ take_at out _ size fits
+
+-- ---- the first p numbers of a zone are copied, to base on
+pub record Copying (list₀ : List ℤ) (base : ℕ) (zone list : List ℤ) (p : ℕ) : Type 0 where
+  pub is : list ≡ paste list₀ base zone p
+  pub long : length list ≡ length list₀
+
+pub copying_start : (list : List ℤ) (base : ℕ) (zone : List ℤ) → Copying list base zone list 0
+copying_start list base zone = record { is = paste-zero list base zone; long = refl }
+
+module _ {list₀ : List ℤ} {base : ℕ} {zone list : List ℤ} {p : ℕ} (c : Copying list₀ base zone list p) where
+  -- one number more
+  pub copying_more : {w : Width} (x : ℤ) → SFits w x → x ≡ get_or zone p (pos 0) → base + p < length list₀ → p < length zone
+      → Copying list₀ base zone (set list (base + p) (to_z w (of_z w x))) (p + 1)
+  copying_more {w} x f e inside in-zone = record {
+    is = rw (to_z-of_z w x f, e, c.is, add-one p) (paste-suc list₀ base zone p (pos 0) inside in-zone);
+    long = length-set list (base + p) _ ∙ c.long;
+  }
+
+  -- those before base are as they were
+  pub copying_before : (j : ℕ) → j < base → base ≤ length list₀ → p ≤ length zone → get_or list j (pos 0) ≡ get_or list₀ j (pos 0)
+  copying_before j h inside in-zone =
+      let head = length_paste_head list₀ base zone p inside in-zone in
+      ap (λ (l : List ℤ). get_or l j (pos 0)) c.is
+      ∙ get_or-append (take base list₀ ++ take p zone) (drop (base + p) list₀) (pos 0) j (rw head (omega arith))
+      ∙ get_or-append (take base list₀) (take p zone) (pos 0) j (rw (length-take-le base list₀ inside) h)
+      ∙ get_or-take base list₀ j (pos 0) h
 
 -- ---- a store at place k
 module _ (size k : ℕ) (list zone : List ℤ) (fits : length zone ≡ size) (inside : k * size + size ≤ length list) where

@@ -436,8 +436,8 @@ pub fn changed<X: Copy, Y: Copy, F: Fn(X) -> Y, const SIZE: usize>(
     made
 }
 
-// The entries of the table of a case as numbers in memory, at the front of an array.
-fn times_in(slots: &[Option<Seconds>]) -> [i32; BOUNDS]
+// The entries of the table of a case as numbers in memory, at the front of an array; those beyond are free.
+pub fn times_in(slots: &[Option<Seconds>]) -> [i32; BOUNDS]
     requires { (length slots.now ≤ most_bounds) × Every (InLimit bound_limit) slots.now }
     ensures { (times_in (take (length slots.now) result) ≡ map time_of slots.now) × (length result ≡ most_bounds) }
 {
@@ -445,7 +445,7 @@ fn times_in(slots: &[Option<Seconds>]) -> [i32; BOUNDS]
 }
 
 // The bounds of a pattern of a case, likewise.
-fn bounds_in(limits: &[Option<Limit>]) -> [i32; BOUNDS]
+pub fn bounds_in(limits: &[Option<Limit>]) -> [i32; BOUNDS]
     requires { (length limits.now ≤ most_bounds) × Every BoundInLimit limits.now }
     ensures { (bounds_in (take (length limits.now) result) ≡ map bound_of limits.now) × (length result ≡ most_bounds) }
 {

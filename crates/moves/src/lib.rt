@@ -46,7 +46,8 @@ fn shifted(raw: i32, by: Seconds) -> i32
     requires { BoundMove by.0 × Small Limit (plus (bound_in raw) (most by.0)) }
     ensures { bound_in result ≡ plus (bound_in raw) (most by.0) }
 {
-    if raw == NONE {
+    let none = raw == NONE;
+    if none {
         return NONE;
     }
     sum(raw, by).0 as i32

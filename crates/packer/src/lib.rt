@@ -192,7 +192,7 @@ fn write_as(case: Case, form: Form, out: &mut [u8]) -> Result<usize, Fault>
     requires { FormLimits form }
     ensures { WriteGiven form case out.old result out.new }
 {
-    judge::form_fault(case, form)?;
+    judge::form_fault(&case, form)?;
     let needed = case_length(&case, form).div_ceil(8);
     if out.len() < needed {
         return Err(Fault::Output(needed));

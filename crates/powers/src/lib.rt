@@ -144,12 +144,14 @@ fn repeats(powers: &[i32], n: usize, r: usize) -> Option<Again>
     None
 }
 
-// The table, put at the front of tables. What lies behind it is free.
+// The table, put at the front of tables. What lies behind it is free. By index: `copy_from_slice` calls memmove, which a program without a C library lacks.
 pub fn put_front(tables: &mut [i32], times: &[i32])
     requires { length times.now ≤ length tables.old }
     ensures { times_in (take (length times.now) tables.new) ≡ times_in times.now }
 {
-    tables[..times.len()].copy_from_slice(times);
+    for k in 0..times.len() {
+        tables[k] = times[k];
+    }
 }
 
 // The powers are made one after the other, until one repeats an earlier one.

@@ -25,8 +25,8 @@ fn entry_fault(n: usize, row: usize, column: usize) -> Result<(), Fault>
 
 // The fault of a change before it is made: the case's own, then 15.
 #[tactic(auto, unfolding(model::specs::Changes::change_fault))]
-fn change_fault(case: Case, row: usize, column: usize) -> Result<(), Fault>
-    ensures { result ≡ judged (change_fault case row column) }
+fn change_fault(case: &Case, row: usize, column: usize) -> Result<(), Fault>
+    ensures { result ≡ judged (change_fault case.now row column) }
 {
     judge::case_fault(case)?;
     entry_fault(case.n, row, column)
@@ -34,13 +34,13 @@ fn change_fault(case: Case, row: usize, column: usize) -> Result<(), Fault>
 
 // The copy with one time changed.
 #[tactic(auto, using(crate::proofs::Inside::inside), unfolding(model::specs::Changes::changed))]
-fn change(case: Case, row: usize, column: usize, time: Option<Seconds>) -> Case
-    requires { change_fault case row column ≡ none }
-    ensures { result ≡ changed case row column time }
+fn change(case: &Case, row: usize, column: usize, time: Option<Seconds>) -> Case
+    requires { change_fault case.now row column ≡ none }
+    ensures { result ≡ changed case.now row column time }
 {
     let mut times = case.times;
     times[(row - 1) * case.n + (column - 1)] = time;
-    Case { times, ..case }
+    Case { times, ..*case }
 }
 
 // The verdict on the case with the time in this row and column, counted from 1, replaced or, where time is None, blanked.
@@ -55,8 +55,8 @@ pub fn preview(
 ) -> Answer
     ensures { PreviewGiven case row column time capacity work.old result work.new }
 {
-    change_fault(case, row, column)?;
-    let copy = change(case, row, column, time);
+    change_fault(&case, row, column)?;
+    let copy = change(&case, row, column, time);
     verdict::verdict(copy, capacity, work)
 }
 
@@ -65,8 +65,8 @@ pub fn preview(
 pub fn commit(case: Case, row: usize, column: usize, time: Option<Seconds>) -> Result<Case, Fault>
     ensures { result ≡ Changes.commit case row column time }
 {
-    change_fault(case, row, column)?;
-    let copy = change(case, row, column, time);
-    judge::case_fault(copy)?;
+    change_fault(&case, row, column)?;
+    let copy = change(&case, row, column, time);
+    judge::case_fault(&copy)?;
     Ok(copy)
 }

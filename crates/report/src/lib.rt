@@ -2,7 +2,7 @@
 #![tactic(auto)]
 
 ghost use Rattle.model.specs.Sizes.{most_departures, most_bytes};
-ghost use Rattle.std.specs.Prelude.{◌≡◌, suc, List, ◌++◌, ℕ, ◌+◌, ◌*◌, ◌≤◌, ◌<◌, length, take};
+ghost use Rattle.std.specs.Prelude.{◌≡◌, suc, List, [], ◌++◌, ℕ, ◌+◌, ◌*◌, ◌≤◌, ◌<◌, length, take};
 ghost use Rattle.model.specs.Answers.{answer};
 ghost use Rattle.report.specs.Text.{fields, line, lines, reached_word, numbered, of_parts, first_line, answer_text};
 ghost use Rattle.report.specs.Text.{program_zones, program_space, text as report_text};
@@ -49,16 +49,16 @@ fn push_line(text: &mut Text<SIZE>, cycle: usize, times: &[Seconds])
 }
 
 // The lines of a verdict that is reached: those of cycle 0 to that cycle.
-fn push_lines(text: &mut Text<SIZE>, case: Case, cycle: Cycle, start: StartTimes)
-    requires few { FewLines case cycle.0 start }
+fn push_lines(text: &mut Text<SIZE>, case: &Case, cycle: Cycle, start: StartTimes)
+    requires few { FewLines case.now cycle.0 start }
     requires room { length text.old ≤ suc heading_size }
-    ensures text { text.new ≡ text.old ++ lines start.parts case start.times (suc cycle.0) }
+    ensures text { text.new ≡ text.old ++ lines start.parts case.now start.times (suc cycle.0) }
     ensures within { length text.new ≤ text_size }
 {
     let n = case.n;
     let count = cycle.0 + 1;
     for j in 0..count {
-        if let Ok(times) = runs::run_parts(case, start.times, Cycle(j)) {
+        if let Ok(times) = runs::run_parts(*case, start.times, Cycle(j)) {
             push_line(text, j, &times[..n]);
         }
     }
@@ -115,39 +115,45 @@ fn capacity_for(n: usize) -> usize
     if n <= FEW { CAPACITY_FEW } else { CAPACITY }
 }
 
-// The text of the answer to a case.
+// The text of the answer to a case, put into an empty one: a text is long, so it is lent where it is filled, and not handed on.
 #[tactic(auto, unfolding(crate::specs::Text::answer_text, crate::specs::Text::lines_after))]
-fn case_text(case: Case) -> Text<SIZE>
-    ensures text { result ≡ answer_text case (answer case (program_zones case.n) program_space) }
-    ensures within { length result ≤ text_size }
+fn push_case(text: &mut Text<SIZE>, case: &Case)
+    requires { text.old ≡ [] }
+    ensures text { text.new ≡ answer_text case.now (answer case.now (program_zones case.now.n) program_space) }
+    ensures within { length text.new ≤ text_size }
 {
     let mut work = [0i32; WORKSPACE];
-    let answer = verdict::verdict(case, capacity_for(case.n), &mut work);
-    let mut text = Text::new();
-    push_heading(&mut text, answer);
+    let answer = verdict::verdict(*case, capacity_for(case.n), &mut work);
+    push_heading(text, answer);
     match answer {
-        Ok(Verdict::Reached(cycle, start)) => push_lines(&mut text, case, cycle, start),
+        Ok(Verdict::Reached(cycle, start)) => push_lines(text, case, cycle, start),
         Ok(Verdict::Clear(_)) => {}
         Ok(Verdict::Never) => {}
         Err(_) => {}
     }
-    text
+}
+
+// The text of the answer to a packed case, put into an empty one.
+#[tactic(auto, unfolding(crate::specs::Text::text))]
+fn push_report(text: &mut Text<SIZE>, bytes: &[u8])
+    requires { text.old ≡ [] }
+    ensures text { text.new ≡ report_text bytes.now }
+    ensures within { length text.new ≤ text_size }
+{
+    match packed::read(bytes) {
+        Ok(case) => push_case(text, &case),
+        Err(fault) => push_heading(text, Err(fault)),
+    }
 }
 
 // The text of the answer to a packed case.
-#[tactic(auto, unfolding(crate::specs::Text::text))]
 pub fn report(bytes: &[u8]) -> Text<SIZE>
     ensures text { result ≡ report_text bytes.now }
     ensures within { length result ≤ text_size }
 {
-    match packed::read(bytes) {
-        Ok(case) => case_text(case),
-        Err(fault) => {
-            let mut text = Text::new();
-            push_heading(&mut text, Err(fault));
-            text
-        }
-    }
+    let mut text = Text::new();
+    push_report(&mut text, bytes);
+    text
 }
 
 // The text of the answer to an input of any length, of which the first bytes were read: all of them, or as many as there is room for.
@@ -157,5 +163,7 @@ pub fn report_input(bytes: &[u8], size: usize) -> Text<SIZE>
     ensures text { (s : List ℕ) → take (length bytes.now) s ≡ take size bytes.now → result ≡ report_text s }
     ensures within { length result ≤ text_size }
 {
-    report(&bytes[..size])
+    let mut text = Text::new();
+    push_report(&mut text, &bytes[..size]);
+    text
 }

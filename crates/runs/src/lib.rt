@@ -72,7 +72,7 @@ fn run_by(
     requires { factor ≤ most_parts }
     ensures { result ≡ run_in_parts factor case start cycle.0 }
 {
-    judge::run_fault(case, start, cycle)?;
+    judge::run_fault(&case, start, cycle)?;
     let n = case.n;
     let table = &case.times[..n * n];
     let mut times = first_times(start, n);
@@ -103,5 +103,5 @@ pub fn run_parts(
 ) -> Result<[Seconds; DEPARTURES], Fault>
     ensures { result ≡ run_in_parts (parts_of (network case)) case start cycle.0 }
 {
-    run_by(case, start, cycle, judge::parts(case))
+    run_by(case, start, cycle, judge::parts(&case))
 }

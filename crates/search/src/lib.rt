@@ -119,7 +119,9 @@ fn keep(
         return k + 1;
     }
     let base = k % PLACES * room;
-    numbers[base..base + zones.len()].copy_from_slice(zones);
+    for p in 0..zones.len() {
+        numbers[base + p] = zones[p];
+    }
     counts[k % PLACES] = count;
     from
 }
@@ -170,9 +172,10 @@ fn take_turns(numbers: &mut [i32], counts: &mut [usize], task: Task, k: Cycle, t
     let n = task.n;
     let parts = task.parts;
     for at in k.0..task.cycles.0 {
-        let list = make_turn(numbers, counts, n, at + 1, turn);
+        let cycle = Cycle(at + 1);
+        let list = make_turn(numbers, counts, n, cycle.0, turn);
         if let Some(times) = lists::first_common(numbers, list, task.start, n, parts) {
-            return Ok(Verdict::Reached(Cycle(at + 1), StartTimes { parts, times }));
+            return Ok(Verdict::Reached(cycle, StartTimes { parts, times }));
         }
     }
     end

@@ -11,6 +11,7 @@ use Rattle.model.specs.declared.Fault.{Fault}
 use Rattle.model.specs.declared.Verdict.{Verdict}
 use Rattle.model.specs.Sizes.{most_cycles}
 use Rattle.model.specs.Pattern.{only_differences}
+use Rattle.model.specs.Matrix.{Matrix}
 use Rattle.model.specs.Network.{Network, repeat_of}
 use Rattle.model.specs.Search as S
 use Rattle.model.specs.Search.{Outcome, plan, plan_with, lists, outcome, parts_of, settled, search_from}
@@ -32,13 +33,18 @@ use Rattle.verdict.specs.declared.Plan.{Plan}
 use Rattle.verdict.specs.Planning.{Planned, Counted}
 
 -- ---- the same network with another horizon: a search does not look at the horizon itself
-abbrev within : Network → ℕ → Network
+abbrev pub within : Network → ℕ → Network
 within w h = record { n = w.n; horizon = h; times = w.times; start = w.start; target = w.target }
 
-same_search : (w : Network) (h capacity r : ℕ) (end : Outcome)
+pub same_search : (w : Network) (h capacity r k : ℕ) (zs : List Matrix) (end : Outcome)
+    → search_from (within w h) capacity r k zs end ≡ search_from w capacity r k zs end
+unfolding search_from settled parts_of
+same_search w h capacity r k zs end = refl
+
+same_from_first : (w : Network) (h capacity r : ℕ) (end : Outcome)
     → search_from (within w h) capacity r 1 (lists (within w h) 0) end ≡ search_from w capacity r 1 (lists w 0) end
-unfolding search_from settled parts_of lists
-same_search w h capacity r end = refl
+unfolding lists
+same_from_first w h capacity r end = same_search w h capacity r 1 (lists w 0) end
 
 -- the searched horizon is within the horizon
 plan_within : (w : Network) → (plan w).cycles ≤ w.horizon
@@ -110,4 +116,4 @@ module _ (c : Case) (capacity size : ℕ) (h : InLimits c capacity size) {times 
       unfolding outcome
       outcome_found r s =
           (rw (network_is p.cycles.0, planned.cycles, planned.end) at s)
-          ∙ ap answered (same_search (network c) (plan (network c)).cycles capacity (plan (network c)).cycles (plan (network c)).end)
+          ∙ ap answered (same_from_first (network c) (plan (network c)).cycles capacity (plan (network c)).cycles (plan (network c)).end)

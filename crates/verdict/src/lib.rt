@@ -43,13 +43,13 @@ fn plan_of(repeat: Option<Again>, differences: bool, horizon: Cycle) -> Plan
 
 // The answer for a case within the limits.
 #[tactic(auto, using(model::proofs::Limits::case_of_lem))]
-fn searched(case: Case, capacity: usize, work: &mut [i32]) -> Answer
-    requires { InLimits case capacity (length work.old) }
-    ensures answer { result ≡ answered (outcome (network case) capacity) }
+fn searched(case: &Case, capacity: usize, work: &mut [i32]) -> Answer
+    requires { InLimits case.now capacity (length work.old) }
+    ensures answer { result ≡ answered (outcome (network case.now) capacity) }
     ensures workspace { work.new ≡ replicate (length work.old) (pos 0) }
 {
     let n = case.n;
-    let loaded = Loaded::of(case);
+    let loaded = Loaded::of(*case);
     let times = loaded.times();
     let start = loaded.start();
     let target = loaded.target();
@@ -75,8 +75,8 @@ fn searched(case: Case, capacity: usize, work: &mut [i32]) -> Answer
 pub fn verdict(case: Case, capacity: usize, work: &mut [i32]) -> Answer
     ensures { Given case capacity work.old result work.new }
 {
-    judge::call_fault(case, capacity, work.len())?;
-    searched(case, capacity, work)
+    judge::call_fault(&case, capacity, work.len())?;
+    searched(&case, capacity, work)
 }
 
 // The verdict on a packed case.

@@ -7,9 +7,9 @@ use Rattle.decide.proofs.accepted.Goals as goal
 use Rattle.decide.proofs.accepted.Goals.{After-parts-parts}
 
 in_memory : (c : After-parts-parts) →
-    Loaded (network c.args.case) c.args.case.n c.parts-parts.result c.args.horizon c.times-times.result.now c.start-start.result.now c.target-target.result.now
+    Loaded (network c.args.case.now) c.args.case.now.n c.parts-parts.result c.args.horizon c.times-times.result.now c.start-start.result.now c.target-target.result.now
 in_memory c =
-    loaded c.args.case c.args.horizon c.requires (rw (← c.times-times.ensures, ← c.start-start.ensures, ← c.target-target.ensures) at c.of-loaded.ensures)
+    loaded c.args.case.now c.args.horizon c.requires (rw (← c.times-times.ensures, ← c.start-start.ensures, ← c.target-target.ensures) at c.of-loaded.ensures)
     c.parts-parts.ensures
 
 pub whole_pattern-requires : goal.whole_pattern-requires

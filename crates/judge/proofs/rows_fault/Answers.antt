@@ -1,24 +1,26 @@
-use Rattle.std.proofs.Common.{ap, sym}
-use Rattle.std.proofs.lemmas.Result.{err_from_is_err_and}
-use Rattle.model.specs.Answers.{judged}
-use Rattle.judge.proofs.Laws.{row_refused, row_empty, row_passed, rows_end}
+use Rattle.std.proofs.Common.{sym, ◌∙◌}
+use Rattle.model.specs.Faults.{over}
+use Rattle.judge.proofs.Laws.{row_none, entry_refused, entry_passed, row_empty, row_passed, rows_end}
 use Rattle.judge.proofs.rows_fault.Goals as goal
 
-pub returns-in_err-entries_fault : goal.returns-in_err-entries_fault
-returns-in_err-entries_fault c =
-    let p = err_from_is_err_and c.from_residual.result c.from_residual.ensures.1 in
-    let s = c.in-Some.ensures.steps in
-    rw (p.1, p.2) (row_refused c.loop-row.invariant c.requires.0 _ _ s.0.1.0 s.0.1.1 (rw s.1 at c.in_err-entries_fault.ensures))
+pub loop-column-init : goal.loop-column-init
+loop-column-init c = (c.rows.invariant.0, row_none c.rows.invariant.1 c.rows-test.true)
 
-pub returns-then-not-holds_time : goal.returns-then-not-holds_time
-returns-then-not-holds_time c =
-    let s = c.in-Some.ensures.steps in
-    rw s.1 (row_empty c.loop-row.invariant c.requires.0 _ _ s.0.1.0 s.0.1.1 (rw s.1 at c.in_ok-entries_fault.ensures) c.if-not-holds_time.ensures)
+pub loop-column-preserved : goal.loop-column-preserved
+unfolding over
+loop-column-preserved c =
+    let said = sym c.in_default.is ∙ c.within.ensures in
+    (c.loop-column.invariant.0, rw c.is_some-some.ensures (entry_passed c.loop-column.invariant.1 c.requires.1 c.loop-column-test.true said))
 
-pub loop-row-preserved : goal.loop-row-preserved
-loop-row-preserved c =
-    let s = c.in-Some.ensures.steps in
-    rw (s.0.0, s.2) (row_passed c.loop-row.invariant c.requires.0 _ _ s.0.1.0 s.0.1.1 (rw s.1 at c.in_ok-entries_fault.ensures) c.if-not-holds_time.ensures)
+pub rows-preserved : goal.rows-preserved
+rows-preserved c = (c.loop-column.invariant.0, row_passed c.loop-column.invariant.1 c.requires.1 c.loop-column-test.false c.if-not-some.false)
 
-pub returns : goal.returns
-returns c = sym (ap judged (rows_end c.loop-row.invariant c.in-None.ensures.steps.0.1.0))
+pub returns-after-rows : goal.returns-after-rows
+returns-after-rows c = c.rows.invariant.0 ∙ rows_end c.rows.invariant.1 c.rows-test.false
+
+pub returns-in-Err : goal.returns-in-Err
+unfolding over
+returns-in-Err c = entry_refused c.loop-column.invariant.1 c.requires.1 c.loop-column-test.true (sym c.in-Err.is ∙ c.within.ensures)
+
+pub returns-then-not-some : goal.returns-then-not-some
+returns-then-not-some c = row_empty c.loop-column.invariant.1 c.requires.1 c.loop-column-test.false c.if-not-some.true

@@ -1,10 +1,10 @@
--- The rows passed so far have no fault.
-use Rattle.std.specs.Iterator.Adapters.{enumerate_source, enumerate_count}
-use Rattle.std.specs.Slice.Iter.{chunks_exact_rest, chunks_exact_size}
-use Rattle.judge.proofs.Laws.{RowsPassed}
+-- The rows passed so far have no fault, nor have the entries passed of the row, and some is whether one of these is a time.
+use Rattle.std.specs.Prelude.{◌≡◌, Ok}
+use Rattle.judge.proofs.Laws.{RowsPassed, InRow}
 use Rattle.judge.proofs.rows_fault.Given as goal
 
-abbrev pub invariant-loop-row : goal.invariant-loop-row
-invariant-loop-row l =
-    let rows = enumerate_source l.row-iterator in
-    RowsPassed l.n l.times (chunks_exact_size rows) (enumerate_count l.row-iterator) (chunks_exact_rest rows)
+abbrev pub invariant-loop-column : goal.invariant-loop-column
+invariant-loop-column l = (l.judged ≡ Ok tt) × InRow l.n l.times l.row l.column l.some
+
+abbrev pub invariant-rows : goal.invariant-rows
+invariant-rows l = (l.judged ≡ Ok tt) × RowsPassed l.n l.times l.row

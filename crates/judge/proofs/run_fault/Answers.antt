@@ -8,4 +8,4 @@ use Rattle.judge.proofs.run_fault.Goals as goal
 pub slice_bounds-starts_fault-end : goal.slice_bounds-starts_fault-end
 slice_bounds-starts_fault-end c =
     let few = (table_departures _ _ _ (judged_ok _ _ (sym c.in_ok-table_fault.ensures))).few in
-    omega (arith, length-take c.args.case.n c.args.start)
+    omega (arith, length-take c.args.case.now.n c.args.start)

@@ -20,8 +20,8 @@ loop-part-init c =
     rw (c.into_iter-part-iterator.ensures.into_iter_gives, made.size, made.rest, c.numbers.ensures, s)
     (omega (arith, suc-mul c.args.n (suc c.args.n)), tt, refl, looking_start c.requires)
 
-pub common-requires : goal.common-requires
-common-requires c =
+pub common-some-requires : goal.common-some-requires
+common-some-requires c =
     let s = c.zone_size-size.ensures in
     let i = c.loop-part.invariant in
     let step = c.in-Some.ensures.steps.1 in
@@ -37,26 +37,26 @@ start-requires c =
     let step = c.in-Some.ensures.steps.1 in
     let fits = step.1 ∙ i.2 in
     let after = c.copy_from_slice.ensures.after in
-    let same = rw s at c.common.auto.zone in
-    let left : Left (common c.args.n (bounds_in c.in-Some.part.now) (bounds_in c.args.pattern.now)) c.common.result (bounds_in c.common.new.zone)
-    = rw (s, copied_is after fits c.loop-part.zone) at c.common.ensures in
+    let same = rw s at c.common-some.auto.zone in
+    let left : Left (common c.args.n (bounds_in c.in-Some.part.now) (bounds_in c.args.pattern.now)) c.common-some.result (bounds_in c.common-some.new.zone)
+    = rw (s, copied_is after fits c.loop-part.zone) at c.common-some.ensures in
     rw (s, out_is after fits c.loop-part.zone _ same)
     (found_ready i.3 c.in-Some.part.now (chunks_exact_rest c.next.new.self) step.0 fits _ left c.requires (out_long after fits c.loop-part.zone _ same)
-    c.if-common.true)
+    c.if-some.true)
 
-pub returns-then-common : goal.returns-then-common
+pub returns-then-some : goal.returns-then-some
 unfolding common found_by
-returns-then-common c =
+returns-then-some c =
     let s = c.zone_size-size.ensures in
     let i = c.loop-part.invariant in
     let step = c.in-Some.ensures.steps.1 in
     let fits = step.1 ∙ i.2 in
     let after = c.copy_from_slice.ensures.after in
-    let same = rw s at c.common.auto.zone in
-    let left : Left (common c.args.n (bounds_in c.in-Some.part.now) (bounds_in c.args.pattern.now)) c.common.result (bounds_in c.common.new.zone)
-    = rw (s, copied_is after fits c.loop-part.zone) at c.common.ensures in
+    let same = rw s at c.common-some.auto.zone in
+    let left : Left (common c.args.n (bounds_in c.in-Some.part.now) (bounds_in c.args.pattern.now)) c.common-some.result (bounds_in c.common-some.new.zone)
+    = rw (s, copied_is after fits c.loop-part.zone) at c.common-some.ensures in
     rw (
-      looking_found i.3 c.in-Some.part.now (chunks_exact_rest c.next.new.self) step.0 fits _ left c.if-common.true,
+      looking_found i.3 c.in-Some.part.now (chunks_exact_rest c.next.new.self) step.0 fits _ left c.if-some.true,
       c.start.ensures,
       s,
       out_is after fits c.loop-part.zone _ same,
@@ -70,13 +70,13 @@ loop-part-preserved c =
     let i = c.loop-part.invariant in
     let step = c.in-Some.ensures.steps.1 in
     let fits = step.1 ∙ i.2 in
-    let left : Left (common c.args.n (bounds_in c.in-Some.part.now) (bounds_in c.args.pattern.now)) c.common.result (bounds_in c.common.new.zone)
-    = rw (s, copied_is c.copy_from_slice.ensures.after fits c.loop-part.zone) at c.common.ensures in
+    let left : Left (common c.args.n (bounds_in c.in-Some.part.now) (bounds_in c.args.pattern.now)) c.common-some.result (bounds_in c.common-some.new.zone)
+    = rw (s, copied_is c.copy_from_slice.ensures.after fits c.loop-part.zone) at c.common-some.ensures in
     rw (c.in-Some.ensures.steps.0) (
       i.0,
       tt,
       i.2,
-      looking_on i.3 c.in-Some.part.now (chunks_exact_rest c.next.new.self) step.0 fits _ left c.if-common.false,
+      looking_on i.3 c.in-Some.part.now (chunks_exact_rest c.next.new.self) step.0 fits _ left c.if-some.false,
     )
 
 pub returns : goal.returns

@@ -47,6 +47,10 @@ abbrev pub Unlike : ℤ × ℤ → Type 0
 Unlike p = p.0 ≡ p.1 → ⊥
 
 -- ---- the numbers of a zone against those at place k
+-- the first p are the same
+abbrev pub SameUpto : ℕ → List ℤ → ℕ → List ℤ → ℕ → Type 0
+SameUpto size list k zone p = (q : ℕ) → q < p → get_or zone q (pos 0) ≡ get_or list (k * size + q) (pos 0)
+
 module _ (list : List ℤ) (k : ℕ) (zone : List ℤ) (inside : k * length zone + length zone ≤ length list) where
   abbrev size : ℕ
   size = length zone
@@ -60,7 +64,7 @@ module _ (list : List ℤ) (k : ℕ) (zone : List ℤ) (inside : k * length zone
   get_d_there : (p : ℕ) → p < size → get_or there p (pos 0) ≡ get_or list (k * size + p) (pos 0)
   get_d_there p h = get_or-take size (drop (k * size) list) p (pos 0) h ∙ get_or-drop (k * size) list p (pos 0)
 
-  all_same : ((q : ℕ) → q < size → get_or zone q (pos 0) ≡ get_or list (k * size + q) (pos 0)) → same_matrix (bounds_in zone) (zone_at size list k) ≡ true
+  all_same : SameUpto size list k zone size → same_matrix (bounds_in zone) (zone_at size list k) ≡ true
   unfolding zone_at
   all_same same =
       let is : zone ≡ there = ext_get_or (pos 0) zone there (sym there_long) (λ q u.
@@ -79,6 +83,19 @@ module _ (list : List ℤ) (k : ℕ) (zone : List ℤ) (inside : k * length zone
           let in_memory = sym (get_d_bounds zone p (omega arith)) ∙ bound ∙ get_d_bounds there p (omega (arith, there_long)) in
           absurd (other (bound_in_injective _ _ in_memory ∙ get_d_there p h))
 
+  pub same_more : {p : ℕ} → SameUpto size list k zone p → get_or zone p (pos 0) ≡ get_or list (k * size + p) (pos 0) → SameUpto size list k zone (p + 1)
+  same_more {p} same e q u = elim (ℕ_discrete q p) [
+    | yes is ↦ rw is e
+    | no less ↦ same q (omega arith)
+  ]
+
+  -- a place at which they differ, or none
+  pub other_place : (p : ℕ) → p < size → (get_or zone p (pos 0) ≡ get_or list (k * size + p) (pos 0) → ⊥) → Other list k zone (Some p)
+  other_place p h other = (h, one_other p h other)
+
+  pub no_other : SameUpto size list k zone size → Other list k zone None
+  no_other = all_same
+
   -- by the first pair of numbers that are not the same
   pairs_long : length (zip zone there) ≡ size
   pairs_long = length-zip zone there ∙ omega (arith, there_long)
@@ -94,10 +111,10 @@ module _ (list : List ℤ) (k : ℕ) (zone : List ℤ) (inside : k * length zone
 
   first_pair : (r : Option ℕ) → First (zip zone there) r → Other list k zone r
   first_pair None same =
-      all_same (λ q h. rw (pair_at q h) at (same q (pos 0, pos 0) (omega arith) (omega (arith, pairs_long))))
+      no_other (λ q h. rw (pair_at q h) at (same q (pos 0, pos 0) (omega arith) (omega (arith, pairs_long))))
   first_pair (Some p) (low, other, _) =
       let h : p < size = omega (arith, pairs_long) in
-      (h, one_other p h (rw (pair_at p h) at (other (pos 0, pos 0))))
+      other_place p h (rw (pair_at p h) at (other (pos 0, pos 0)))
 
   -- the same, with a part that is lent
   pub first_lent : {part : List ℤ} → part ≡ there → (r : Option ℕ) → First (zip zone part) r → Other list k zone r

@@ -6,12 +6,12 @@ use Rattle.report.proofs.push_lines.Goals.{in-Ok, in_default}
 
 pub loop-j-init : goal.loop-j-init
 loop-j-init c =
-    rw (lines_none c.args.start.parts c.args.case c.args.start.times) (record { text = sym (append-nil c.args.text.now); short = omega arith })
+    rw (lines_none c.args.start.parts c.args.case.now c.args.start.times) (record { text = sym (append-nil c.args.text.now); short = omega arith })
 
 pub loop-j-preserved : goal.loop-j-preserved
 loop-j-preserved c =
     let before = c.loop-j.invariant in
-    let next = lines_next c.args.start.parts c.args.case c.args.start.times c.loop-j.j in
+    let next = lines_next c.args.start.parts c.args.case.now c.args.start.times c.loop-j.j in
     let run = rw (← c.requires.few.parts) at c.run_parts.ensures in
     rw (next, ← run) (elim c.match-run_parts.branch [
       | in-Ok w ↦ rw (w.text-is, w.in-Ok.is) (record {

@@ -5,11 +5,11 @@ use Rattle.model.specs.declared.Verdict.TheVariants.{Reached}
 use Rattle.model.specs.Answers.{answer}
 use Rattle.report.specs.Text.{program_zones, program_space}
 use Rattle.report.proofs.Few.{few}
-use Rattle.report.proofs.case_text.Goals as goal
+use Rattle.report.proofs.push_case.Goals as goal
 
 pub push_lines-requires-clause-few : goal.push_lines-requires-clause-few
 push_lines-requires-clause-few c =
-    let a = c.args.case in
+    let a = c.args.case.now in
     let k = c.in-Ok-Reached.cycle in
     let s = c.in-Ok-Reached.start in
     let is = c.verdict-answer.ensures.answer ∙ ap₂ (answer a) c.capacity_for.ensures (length-replicate program_space (pos 0)) in
