@@ -5,6 +5,7 @@ use mathlib.Core.Path.{◌≡◌, refl, sym, ap, ap₂, ◌∙◌}
 use mathlib.Core.Logic.{◌≢◌}
 use mathlib.Core.Bool.{Bool, true, false, not, cond}
 use mathlib.Core.List.{List, ◌∷◌}
+use mathlib.Core.Option.{none}
 use lib.Dec.{eqb}
 use lib.IntN.{ℤ, pos}
 use lib.ListN.{length, set, replicate, length-set}
@@ -19,7 +20,7 @@ use Rattle.model.specs.declared.Fault.{Fault}
 use Rattle.model.specs.Lists.{tabulate, padded}
 use Rattle.model.specs.Faults.{Entry}
 use Rattle.model.specs.Answers.{seconds}
-use Rattle.model.specs.Changes.{time_place, changed, commit}
+use Rattle.model.specs.Changes.{time_place, changed, change_fault, commit}
 use Rattle.model.proofs.Changes.{no_change_fault, place_small, refused_keeps, accepted_stands, accepted_changes}
 use Rattle.model.proofs.Entries.{length_tabulate}
 use Rattle.model.proofs.Tabulated.{tabulate_ext}
@@ -112,14 +113,25 @@ module _ (n h : ℕ) (present strict : List ℕ) (values : List ℤ) (row column
   abbrev x : ℕ
   x = flag (not (eqb has 0))
 
+  -- of a change without a fault
+  module _ (clean : change_fault it row column ≡ none) where
+    -- its place is in the table
+    pub in_table : (1 ≤ row) × (1 ≤ column) × (k < most_times)
+    unfolding case_in
+    in_table =
+        let here = ((no_change_fault _ _ _).0 clean).1 in
+        (here.row_from, here.column_from, place_small _ _ _ clean)
+
+    -- the arrays hold the case with that time changed
+    pub clean_case_put : length present ≡ case_entries → length values ≡ case_entries
+        → case_in n h (flags k x time present values) strict (times k x time present values) ≡ changed it row column e
+    clean_case_put present_long values_long =
+        let put = there k x time present values (omega (arith, in_table)) (omega (arith, in_table)) ∙ flag_back (eqb has 0) time in
+        case_put k x time present values strict put n h row column refl in_table.2
+
   -- where the change is accepted, its place is in the table
   pub placed : true ≡ is_ok (commit it row column e) → (1 ≤ row) × (1 ≤ column) × (k < most_times)
-  unfolding case_in
-  placed ok =
-      let (c, is) = accepted_case (commit it row column e) ok in
-      let clean = (accepted_changes it row column e c is).0 in
-      let here = ((no_change_fault _ _ _).0 clean).1 in
-      (here.row_from, here.column_from, place_small _ _ _ clean)
+  placed ok = let (c, is) = accepted_case (commit it row column e) ok in in_table (accepted_changes it row column e c is).0
 
   module _ {returned first second : ℕ} (t : Handed (written_numbers (with_count (commit it row column e) 0)) returned first second) where
     pub put_handed : length present ≡ case_entries → length values ≡ case_entries → true ≡ is_ok (commit it row column e)
@@ -128,16 +140,11 @@ module _ (n h : ℕ) (present strict : List ℕ) (values : List ℤ) (row column
     put_handed present_long values_long done =
         let (c, ok) = accepted_case (commit it row column e) done in
         let (clean, after, is) = accepted_changes it row column e c ok in
-        let in_table = (placed done).2 in
-        let put = there k x time present values (omega arith) (omega arith) ∙ flag_back (eqb has 0) time in
         record {
           numbers = t;
           present_after = rw ok;
           values_after = rw ok;
-          stands =
-              case_put k x time present values strict put n h row column refl in_table
-              ∙ sym is
-              ∙ sym (accepted_stands it row column e c ok);
+          stands = clean_case_put clean present_long values_long ∙ sym is ∙ sym (accepted_stands it row column e c ok);
         }
 
     pub kept_handed : false ≡ is_ok (commit it row column e)
